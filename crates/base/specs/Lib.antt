@@ -1,0 +1,5 @@
+pub mod Pick
+pub mod Bytes
+pub mod Table
+pub mod Outcome
+pub mod Splice

@@ -1,0 +1,39 @@
+-- The one shape of a call's outcome: the number of a stop, or the answer.
+use Prim.Native.Nat.{ℕ, _≤_}
+use native.Mathlib.Omega.{arith}
+use mathlib.Core.Path.{_≡_, refl}
+use mathlib.Core.Bool.{Bool}
+use mathlib.Core.List.{List, _++_}
+use lib.ListN.{length, drop, length-append, length-drop}
+use lib.Dec.{leb}
+use Rattle.base.specs.Pick.{pick}
+
+pub data Outcome (A : Type 0) : Type 0 where
+  stop : ℕ → Outcome A
+  answer : A → Outcome A
+
+-- one step after another: the first stop is the outcome
+abbrev pub andThen : {A B : Type 0} → Outcome A → (A → Outcome B) → Outcome B
+andThen (stop n) f = stop n
+andThen (answer a) f = f a
+
+-- stop n unless its test passes
+abbrev pub check : {A : Type 0} → ℕ → Bool → Outcome A → Outcome A
+check n passes rest = pick passes rest (stop n)
+
+-- a buffer with bytes at its front
+abbrev pub over : List ℕ → List ℕ → List ℕ
+over b d = b ++ drop (length b) d
+
+-- what a lent buffer holds afterwards: a stop leaves it as it was
+abbrev pub lent : List ℕ → Outcome (List ℕ) → List ℕ
+lent d (stop n) = d
+lent d (answer b) = over b d
+
+-- bytes written into a buffer of that many bytes: 16 if it is shorter than the answer
+abbrev pub writtenTo : ℕ → List ℕ → Outcome (List ℕ)
+writtenTo room b = check 16 (leb (length b) room) (answer b)
+
+-- a buffer keeps its length
+pub over-length : (b d : List ℕ) → length b ≤ length d → length (over b d) ≡ length d
+over-length b d h = rw (length-append, length-drop) (omega arith)

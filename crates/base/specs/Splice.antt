@@ -1,0 +1,31 @@
+-- Bytes put into a list at a place: what stands before and after them stays.
+use Prim.Native.Nat.{ℕ, suc, _+_, _<_, _≤_}
+use native.Mathlib.Omega.{arith}
+use native.Mathlib.Numerals.{add-one}
+use mathlib.Core.Path.{_≡_, refl, sym, ap, _∙_}
+use mathlib.Core.List.{List, [], _∷_, _++_, append-assoc}
+use lib.ListN.{length, take, drop, set, length-append, length-take, length-drop, take-append-drop}
+use lib.Seq.{length-take-le, take-append-add, take-append-seam, drop-append-add, drop-append-seam, drop-drop, take-at, drop-at, set-at, set-split}
+
+abbrev pub splice : List ℕ → ℕ → List ℕ → List ℕ
+splice d at xs = take at d ++ xs ++ drop (at + length xs) d
+
+pub length-splice : (d : List ℕ) (at : ℕ) (xs : List ℕ) → at + length xs ≤ length d → length (splice d at xs) ≡ length d
+length-splice d at xs h = simp (length-append, length-drop, length-take) (omega arith)
+
+-- one piece after another is one piece
+pub splice-splice :
+    (d : List ℕ) (at : ℕ) (xs ys : List ℕ) (to : ℕ)
+    → to ≡ at + length xs
+    → at + length xs ≤ length d
+    → splice (splice d at xs) to ys ≡ splice d at (xs ++ ys)
+splice-splice d at xs ys to e h =
+    let l : length (take at d ++ xs) ≡ to = rw (length-append, length-take-le at d (omega arith)) (sym e) in
+    let t = take-at (take at d ++ xs) (drop (at + length xs) d) to l in
+    let n : at + length xs + length ys ≡ at + length (xs ++ ys) = rw length-append (omega arith) in
+    let u : drop (to + length ys) (splice d at xs) ≡ drop (at + length (xs ++ ys)) d
+    = ap (λ m. drop (m + length ys) (splice d at xs)) (sym l)
+    ∙ drop-append-add (take at d ++ xs) (drop (at + length xs) d) (length ys)
+    ∙ drop-drop (length ys) (at + length xs) d
+    ∙ ap (λ m. drop m d) n in
+    rw (u, t) (ap (λ l. l ++ drop (at + length (xs ++ ys)) d) (append-assoc (take at d) xs ys))

@@ -1,0 +1,1 @@
+// What every crate's specifications share. There is no code here: see specs/.

@@ -1,0 +1,4 @@
+pub mod Range
+pub mod Factors
+pub mod Cut
+pub mod Laws

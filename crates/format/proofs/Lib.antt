@@ -1,0 +1,3 @@
+pub mod Digits
+pub mod Keys
+pub mod Ranges

@@ -1,0 +1,87 @@
+// The layouts of document 01, "Images": keys and ranges. What is read is read in place: an answer says where it stands.
+mod range;
+
+pub use range::BoundSpan;
+pub use range::RangeRead;
+pub use range::key_of;
+pub use range::passes;
+pub use range::range_at;
+pub use range::range_whole;
+ghost use mathlib.Core.Path.{_≡_};
+ghost use Prim.Native.Nat.{_≤_, _<_};
+ghost use lib.ListN.{drop};
+ghost use Rattle.format.specs.Number.{readNumber, numberOf};
+ghost use Rattle.format.specs.Key.{readKey, KeyFound};
+
+// What reading a number finds.
+pub enum Number {
+    Value(u64),
+    Short,
+}
+
+fn wide(x: u8) -> u64
+    ensures { λ r. ⌜ (r ≡ x) × (r < 256) ⌝ }
+{
+    x as u64
+}
+
+// The number of the first n bytes of t, most significant first.
+fn front(t: &[u8], n: usize) -> Number
+    requires { ⌜ n ≤ 8 ⌝ }
+    ensures { λ r. ⌜ numberOf n (now (t .entry)) 0 r ≡ readNumber n (now (t .entry)) ⌝ }
+{
+    if t.len() < n {
+        return Number::Short;
+    }
+    let mut v: u64 = 0;
+    let mut i = 0;
+    while i < n {
+        v = v * 256 + wide(t[i]);
+        i += 1;
+    }
+    Number::Value(v)
+}
+
+// The number of n bytes at a place.
+pub fn number_at(s: &[u8], at: usize, n: usize) -> Number
+    requires { ⌜ n ≤ 8 ⌝ }
+    ensures { λ r. ⌜ numberOf n (now (s .entry)) at r ≡ readNumber n (drop at (now (s .entry))) ⌝ }
+{
+    if at <= s.len() {
+        front(&s[at..], n)
+    } else {
+        front(&s[..0], n)
+    }
+}
+
+// What reading a key finds: its bytes start at start and are len long, and next is past them.
+pub enum KeyRead {
+    At {
+        start: usize,
+        len: usize,
+        next: usize,
+    },
+    Stop(u8),
+}
+
+// The key at a place.
+pub fn key_at(s: &[u8], at: usize) -> KeyRead
+    ensures { λ r. ⌜ KeyFound (now (s .entry)) (readKey (drop at (now (s .entry)))) r ⌝ }
+{
+    let Number::Value(n) = number_at(s, at, 2) else {
+        return KeyRead::Stop(1);
+    };
+    if 1024 < n {
+        return KeyRead::Stop(3);
+    }
+    let len = n as usize;
+    let start = at + 2;
+    if s.len() - start < len {
+        return KeyRead::Stop(1);
+    }
+    KeyRead::At {
+        start,
+        len,
+        next: start + len,
+    }
+}
