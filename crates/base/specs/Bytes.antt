@@ -32,3 +32,7 @@ pub bytes-take : (n : ℕ) (l : List ℕ) → Bytes l → Bytes (take n l)
 bytes-take zero l b = bytes-none
 bytes-take (suc n) [] b = bytes-none
 bytes-take (suc n) (x ∷ l) b = bytes-cons (b .below 0) (bytes-take n l (bytes-tail b))
+
+pub bytes-rest : (k l : List ℕ) → Bytes (k ++ l) → Bytes l
+bytes-rest [] l b = b
+bytes-rest (x ∷ k) l b = bytes-rest k l (bytes-tail b)

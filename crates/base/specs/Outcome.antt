@@ -7,6 +7,8 @@ use mathlib.Core.List.{List, _++_}
 use lib.ListN.{length, drop, length-append, length-drop}
 use lib.Dec.{leb}
 use Rattle.base.specs.Pick.{pick}
+use Rattle.base.specs.declared.Written.{Written}
+use Rattle.base.specs.declared.Written.the-variants.{Wrote, Stop}
 
 pub data Outcome (A : Type 0) : Type 0 where
   stop : ℕ → Outcome A
@@ -33,6 +35,11 @@ lent d (answer b) = over b d
 -- bytes written into a buffer of that many bytes: 16 if it is shorter than the answer
 abbrev pub writtenTo : ℕ → List ℕ → Outcome (List ℕ)
 writtenTo room b = check 16 (leb (length b) room) (answer b)
+
+-- what such a call reports of its outcome
+abbrev pub reported : Outcome (List ℕ) → Written
+reported (stop n) = Stop n
+reported (answer b) = Wrote (length b)
 
 -- a buffer keeps its length
 pub over-length : (b d : List ℕ) → length b ≤ length d → length (over b d) ≡ length d

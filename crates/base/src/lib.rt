@@ -1,1 +1,7 @@
-// What every crate's specifications share. There is no code here: see specs/.
+// What every crate shares. See specs/ for the shape of an outcome.
+
+// What a call that writes into a lent buffer answers: how many bytes stand at its front, or the number of the stop.
+pub enum Written {
+    Wrote(usize),
+    Stop(u8),
+}

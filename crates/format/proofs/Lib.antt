@@ -1,3 +1,6 @@
 pub mod Digits
 pub mod Keys
 pub mod Ranges
+pub mod Layouts
+pub mod Puts
+pub mod RangeLayouts

@@ -1,5 +1,6 @@
 // The layouts of document 01, "Images": keys and ranges. What is read is read in place: an answer says where it stands.
 mod range;
+mod write;
 
 pub use range::BoundSpan;
 pub use range::RangeRead;
@@ -7,6 +8,10 @@ pub use range::key_of;
 pub use range::passes;
 pub use range::range_at;
 pub use range::range_whole;
+pub use write::put;
+pub use write::put_byte;
+pub use write::put_key;
+pub use write::put_number;
 ghost use mathlib.Core.Path.{_≡_};
 ghost use Prim.Native.Nat.{_≤_, _<_};
 ghost use lib.ListN.{drop};
