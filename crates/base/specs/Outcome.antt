@@ -1,11 +1,12 @@
 -- The one shape of a call's outcome: the number of a stop, or the answer.
-use Prim.Native.Nat.{ℕ, _≤_}
+use Prim.Native.Nat.{ℕ, _<_, _≤_}
 use native.Mathlib.Omega.{arith}
-use mathlib.Core.Path.{_≡_, refl}
+use mathlib.Core.Path.{_≡_, refl, sym, ap, _∙_}
 use mathlib.Core.Bool.{Bool}
 use mathlib.Core.List.{List, _++_}
 use lib.ListN.{length, drop, length-append, length-drop}
 use lib.Dec.{leb}
+use borrow.Author.Tests.{le-leb, lt-leb}
 use Rattle.base.specs.Pick.{pick}
 use Rattle.base.specs.declared.Written.{Written}
 use Rattle.base.specs.declared.Written.the-variants.{Wrote, Stop}
@@ -40,6 +41,28 @@ writtenTo room b = check 16 (leb (length b) room) (answer b)
 abbrev pub reported : Outcome (List ℕ) → Written
 reported (stop n) = Stop n
 reported (answer b) = Wrote (length b)
+
+-- ---- what the code of such a call knows, as its outcome has it
+module _ (d b : List ℕ) {n : ℕ} (e : n ≡ length b) where
+  no-room : length d < n → writtenTo (length d) b ≡ stop 16
+  no-room h = rw (lt-leb (length b) (length d) (omega arith))
+
+  room : n ≤ length d → writtenTo (length d) b ≡ answer b
+  room h = rw (le-leb (length b) (length d) (omega arith))
+
+  pub stops-16 : length d < n → Stop 16 ≡ reported (writtenTo (length d) b)
+  stops-16 h = sym (ap reported (no-room h))
+
+  pub keeps : length d < n → d ≡ lent d (writtenTo (length d) b)
+  keeps h = sym (ap (lent d) (no-room h))
+
+  pub wrote : n ≤ length d → Wrote n ≡ reported (writtenTo (length d) b)
+  wrote h = ap Wrote e ∙ sym (ap reported (room h))
+
+  pub stands : {f : List ℕ} → n ≤ length d → f ≡ over b d → f ≡ lent d (writtenTo (length d) b)
+  stands h q = q ∙ sym (ap (lent d) (room h))
+
+pub ruleset written-exits = (stops-16, keeps, wrote, stands)
 
 -- a buffer keeps its length
 pub over-length : (b d : List ℕ) → length b ≤ length d → length (over b d) ≡ length d

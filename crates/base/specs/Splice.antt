@@ -14,6 +14,9 @@ splice d at xs = take at d ++ xs ++ drop (at + length xs) d
 pub length-splice : (d : List ℕ) (at : ℕ) (xs : List ℕ) → at + length xs ≤ length d → length (splice d at xs) ≡ length d
 length-splice d at xs h = simp (length-append, length-drop, length-take) (omega arith)
 
+pub spliced-length : (d : List ℕ) (at : ℕ) (xs : List ℕ) {f : List ℕ} → f ≡ splice d at xs → at + length xs ≤ length d → length f ≡ length d
+spliced-length d at xs e h = ap length e ∙ length-splice d at xs h
+
 -- one piece after another is one piece
 pub splice-splice :
     (d : List ℕ) (at : ℕ) (xs ys : List ℕ) (to : ℕ)

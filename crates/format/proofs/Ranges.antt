@@ -18,7 +18,7 @@ use Rattle.comparable_range.specs.declared.Kind.{Kind}
 use Rattle.comparable_range.specs.declared.Kind.the-variants.{Unbounded, Included, Excluded}
 use Rattle.format.specs.Got.{Got, got, stop, andThen}
 use Rattle.format.specs.Key.{readKey, keyOf, KeyFound}
-use Rattle.format.specs.Range.{headOf, readBound, BoundFound, headed, readRange, RangeFound, RangeWhole, BoundInside, rangeIn}
+use Rattle.format.specs.Range.{headOf, headByte, readBound, BoundFound, headed, readRange, RangeFound, RangeWhole, BoundInside, rangeIn}
 use Rattle.format.specs.Whole.{whole, ended}
 use Rattle.format.specs.declared.KeyRead.{KeyRead}
 use Rattle.format.specs.declared.KeyRead.the-variants.{At as KeyAt, Stop as KeyStop}
@@ -45,6 +45,37 @@ valid = 160 ∷ 144 ∷ 128 ∷ 96 ∷ 80 ∷ 64 ∷ 32 ∷ 16 ∷ 0 ∷ []
 pub other-head : (b : ℕ) → b < 256 → NoneOf b valid → HeadStop 2 ≡ headOf b
 unfolding headOf
 other-head b h r = stopped-is (headOf b) (ruled (λ b. stopped (headOf b)) valid 256 tt b h r)
+
+-- ---- the head byte of each pair of kinds
+module _ (j k : Kind) where
+  pub free-free : j ≡ Unbounded → k ≡ Unbounded → 0 ≡ headByte j k
+  free-free h l = rw (h, l)
+
+  pub free-in : j ≡ Unbounded → k ≡ Included → 16 ≡ headByte j k
+  free-in h l = rw (h, l)
+
+  pub free-ex : j ≡ Unbounded → k ≡ Excluded → 32 ≡ headByte j k
+  free-ex h l = rw (h, l)
+
+  pub in-free : j ≡ Included → k ≡ Unbounded → 64 ≡ headByte j k
+  in-free h l = rw (h, l)
+
+  pub in-in : j ≡ Included → k ≡ Included → 80 ≡ headByte j k
+  in-in h l = rw (h, l)
+
+  pub in-ex : j ≡ Included → k ≡ Excluded → 96 ≡ headByte j k
+  in-ex h l = rw (h, l)
+
+  pub ex-free : j ≡ Excluded → k ≡ Unbounded → 128 ≡ headByte j k
+  ex-free h l = rw (h, l)
+
+  pub ex-in : j ≡ Excluded → k ≡ Included → 144 ≡ headByte j k
+  ex-in h l = rw (h, l)
+
+  pub ex-ex : j ≡ Excluded → k ≡ Excluded → 160 ≡ headByte j k
+  ex-ex h l = rw (h, l)
+
+pub ruleset head-bytes = (free-free, free-in, free-ex, in-free, in-in, in-ex, ex-free, ex-in, ex-ex)
 
 -- ---- bounds
 abbrev span : Kind → ℕ → ℕ → BoundSpan

@@ -4,6 +4,7 @@ mod write;
 
 pub use range::BoundSpan;
 pub use range::RangeRead;
+pub use range::head_byte;
 pub use range::key_of;
 pub use range::passes;
 pub use range::range_at;

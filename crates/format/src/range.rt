@@ -6,7 +6,7 @@ ghost use mathlib.Core.Path.{_≡_};
 ghost use Prim.Native.Nat.{_≤_, _+_};
 ghost use lib.ListN.{length, take, drop};
 ghost use Rattle.comparable_range.specs.Range.{nonEmpty};
-ghost use Rattle.format.specs.Range.{headOf, readBound, readRange, BoundFound, RangeFound, RangeWhole, BoundInside, rangeIn};
+ghost use Rattle.format.specs.Range.{headOf, headByte, readBound, readRange, BoundFound, RangeFound, RangeWhole, BoundInside, rangeIn};
 
 // What the head byte says: the kinds of start and end.
 pub enum Head {
@@ -40,6 +40,29 @@ fn head_of(b: u8) -> Head
         | 161..=175 => Head::Stop(2),
         // Kind 3.
         48..=63 | 112..=127 | 176..=255 => Head::Stop(2),
+    }
+}
+
+// The head byte of two kinds.
+pub fn head_byte(ks: Kind, ke: Kind) -> u8
+    ensures { λ r. ⌜ r ≡ headByte ks ke ⌝ }
+{
+    match ks {
+        Kind::Unbounded => match ke {
+            Kind::Unbounded => 0,
+            Kind::Included => 16,
+            Kind::Excluded => 32,
+        },
+        Kind::Included => match ke {
+            Kind::Unbounded => 64,
+            Kind::Included => 80,
+            Kind::Excluded => 96,
+        },
+        Kind::Excluded => match ke {
+            Kind::Unbounded => 128,
+            Kind::Included => 144,
+            Kind::Excluded => 160,
+        },
     }
 }
 
