@@ -4,3 +4,4 @@ pub mod PrefixLaws
 pub mod Points
 pub mod Joins
 pub mod RangePut
+pub mod Spans

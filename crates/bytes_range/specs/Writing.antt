@@ -1,12 +1,16 @@
--- The code's answers on prefixes, and when a prefix and a suffix join to a key.
+-- What the code's answers say of the slices that it was lent, and when a prefix and a suffix join to a key.
 use Prim.Native.Nat.{ℕ, _+_, _≤_}
 use mathlib.Core.Bool.{Bool, true, false, _&&_}
 use mathlib.Core.Option.{Option, none, some}
-use mathlib.Core.List.{List}
-use lib.ListN.{length}
+use mathlib.Core.List.{List, []}
+use lib.ListN.{length, take, drop}
 use lib.Dec.{leb}
 use Rattle.key.specs.Order.{Key}
-use Rattle.comparable_range.specs.Range.{Bound, unbounded, included, excluded, Range}
+use Rattle.comparable_range.specs.Range.{Bound, unbounded, included, excluded, Range, of, nonEmpty}
+use Rattle.format.specs.Range.{BoundInside, boundIn, writeRange}
+use Rattle.base.specs.Outcome.{Outcome, check, writtenTo}
+use Rattle.bytes_range.specs.Prefix.{fromPrefixAndSubrange}
+use Rattle.bytes_range.specs.declared.span.Supplied.{Supplied}
 
 -- a bound's key follows the prefix within 1,024 bytes
 unfoldable pub joinsWithin : Key → Bound → Bool
@@ -21,3 +25,24 @@ rangeJoins p r = joinsWithin p (r .start) && joinsWithin p (r .end)
 abbrev pub pointIf : Bool → Key → Option Key
 pointIf true k = some k
 pointIf false k = none
+
+-- ---- bounds that stand in one of two slices
+abbrev pub SuppliedInside : List ℕ → List ℕ → Supplied → Type 0
+SuppliedInside a b x = BoundInside (of (x .side) a b) (x .bound)
+
+abbrev pub suppliedBound : List ℕ → List ℕ → Supplied → Bound
+suppliedBound a b x = boundIn (of (x .side) a b) (x .bound)
+
+-- the key of a bound, empty where it has none
+abbrev pub boundKey : Bound → Key
+boundKey unbounded = []
+boundKey (included k) = k
+boundKey (excluded k) = k
+
+-- ---- a prefix and a subrange, written into a buffer of `room` bytes
+-- Stop 3 if they join to over 1,024 bytes; stop 4 if the given or the joined range fails `non_empty`.
+unfoldable pub joinedTo : ℕ → Key → Range → Outcome (List ℕ)
+joinedTo room p r =
+    check 3 (rangeJoins p r)
+    (check 4 (nonEmpty r && nonEmpty (fromPrefixAndSubrange p r))
+    (writtenTo room (writeRange (fromPrefixAndSubrange p r))))

@@ -1,4 +1,6 @@
 // Ranges from prefixes, and ranges that are one point, as bytes_range.rs has them.
+pub mod span;
+
 use base::Written;
 use comparable_range::Kind;
 ghost use mathlib.Core.Path.{_≡_};

@@ -1,0 +1,180 @@
+-- The exits of the calls on keys, bounds and single ranges: the checks passed so far decide the outcome.
+-- Assumes nothing.
+use Prim.Native.Nat.{ℕ, zero, suc, _+_, _<_, _≤_}
+use native.Mathlib.Omega.{arith}
+use mathlib.Core.Path.{_≡_, refl, sym, _∙_, ap}
+use mathlib.Core.Bool.{Bool, true, false}
+use mathlib.Core.Option.{Option, none, some}
+use mathlib.Core.List.{List, [], _∷_}
+use lib.IntN.{ℤ}
+use lib.ListN.{length, take, drop}
+use lib.Dec.{leb}
+use borrow.Author.Tests.{le-leb, lt-leb}
+use Rattle.base.specs.Outcome.{Outcome, stop, answer}
+use Rattle.base.specs.Table.{NoneOf}
+use Rattle.key.specs.Order.{Key, cmpKey, sign}
+use Rattle.key.specs.declared.Order.{Order}
+use Rattle.comparable_range.specs.Range.{Bound, unbounded, boundOf, Range, cmpBound, nonEmpty, holds}
+use Rattle.comparable_range.specs.declared.Kind.{Kind}
+use Rattle.comparable_range.specs.declared.Kind.the-variants.{Unbounded, Included, Excluded}
+use Rattle.format.specs.Range.{readRange, rangeIn, BoundInside, RangeWhole}
+use Rattle.format.specs.Whole.{whole, keyGiven}
+use Rattle.format.specs.declared.range.BoundSpan.{BoundSpan}
+use Rattle.format.specs.declared.range.RangeRead.{RangeRead}
+use Rattle.format.specs.declared.range.RangeRead.the-variants.{At as RangeAt, Stop as RangeStop}
+use Rattle.bytes_range.specs.Prefix.{asPoint}
+use Rattle.bytes_range.specs.Writing.{pointIf}
+use Rattle.bilqarush.specs.Calls.{rangeGiven, nothingLeft, boundGiven, compareOutcome, cmpBoundOutcome, nonEmptyOutcome, containsOutcome, asPointOutcome}
+use Rattle.bilqarush.specs.Answers.{givenOf, orderOf, testOf, pointOf, PointFound}
+use Rattle.bilqarush.specs.declared.Given.{Given}
+use Rattle.bilqarush.specs.declared.Given.the-variants.{Bound as GivenBound, Stop as GivenStop}
+use Rattle.bilqarush.specs.declared.Compared.the-variants.{Order as Ordered, Stop as ComparedStop}
+use Rattle.bilqarush.specs.declared.Tested.the-variants.{Is, Stop as TestedStop}
+use Rattle.bilqarush.specs.declared.Point.the-variants.{At, Nothing, Stop}
+
+-- ---- keys
+pub key-fits : (l : List ℕ) → length l ≤ 1024 → keyGiven l ≡ answer l
+unfolding keyGiven
+key-fits l h = rw (le-leb (length l) 1024 h)
+
+pub key-long : (l : List ℕ) → 1024 < length l → keyGiven l ≡ stop 3
+unfolding keyGiven
+key-long l h = rw (lt-leb (length l) 1024 h)
+
+module _ (a b : List ℕ) where
+  pub first-long : 1024 < length a → orderOf (ComparedStop 3) ≡ compareOutcome a b
+  unfolding compareOutcome
+  first-long h = rw (key-long a h)
+
+  pub second-long : length a ≤ 1024 → 1024 < length b → orderOf (ComparedStop 3) ≡ compareOutcome a b
+  unfolding compareOutcome
+  second-long h k = rw (key-fits a h, key-long b k)
+
+  pub compared : {o : Order} {z : ℤ} → length a ≤ 1024 → length b ≤ 1024 → o ≡ cmpKey a b → z ≡ sign o → orderOf (Ordered z) ≡ compareOutcome a b
+  unfolding compareOutcome
+  compared h k e q = rw (key-fits a h, key-fits b k, q, e)
+
+pub ruleset compare-exits = (first-long, second-long, compared)
+
+-- ---- bounds
+none-left : (l : List ℕ) → length l ≤ 0 → nothingLeft l ≡ answer unbounded
+none-left [] h = refl
+none-left (x ∷ l) h = absurd (omega arith)
+
+some-left : (l : List ℕ) → 0 < length l → nothingLeft l ≡ stop 1
+some-left [] h = absurd (omega arith)
+some-left (x ∷ l) h = refl
+
+module _ (l : List ℕ) {k : ℕ} where
+  pub free-large : k ≡ 0 → 65536 < length l → givenOf l (GivenStop 3) ≡ boundGiven k l
+  unfolding boundGiven
+  free-large e h = rw (e, lt-leb (length l) 65536 h)
+
+  pub free-left : k ≡ 0 → length l ≤ 65536 → 0 < length l → givenOf l (GivenStop 1) ≡ boundGiven k l
+  unfolding boundGiven
+  free-left e h n = rw (e, le-leb (length l) 65536 h, some-left l n)
+
+  pub free-bound : k ≡ 0 → length l ≤ 65536 → length l ≤ 0 → givenOf l (GivenBound Unbounded) ≡ boundGiven k l
+  unfolding boundGiven
+  free-bound e h n = rw (e, le-leb (length l) 65536 h, none-left l n)
+
+  pub in-long : k ≡ 1 → 1024 < length l → givenOf l (GivenStop 3) ≡ boundGiven k l
+  unfolding boundGiven
+  in-long e h = rw (e, key-long l h)
+
+  pub in-bound : k ≡ 1 → length l ≤ 1024 → givenOf l (GivenBound Included) ≡ boundGiven k l
+  unfolding boundGiven
+  in-bound e h = rw (e, key-fits l h)
+
+  pub ex-long : k ≡ 2 → 1024 < length l → givenOf l (GivenStop 3) ≡ boundGiven k l
+  unfolding boundGiven
+  ex-long e h = rw (e, key-long l h)
+
+  pub ex-bound : k ≡ 2 → length l ≤ 1024 → givenOf l (GivenBound Excluded) ≡ boundGiven k l
+  unfolding boundGiven
+  ex-bound e h = rw (e, key-fits l h)
+
+pub bad-kind : (l : List ℕ) (k : ℕ) → NoneOf k (2 ∷ 1 ∷ 0 ∷ []) → givenOf l (GivenStop 2) ≡ boundGiven k l
+unfolding boundGiven
+bad-kind l zero h = absurd (h .0 .0 .1 refl)
+bad-kind l (suc zero) h = absurd (h .0 .1 refl)
+bad-kind l (suc (suc zero)) h = absurd (h .1 refl)
+bad-kind l (suc (suc (suc n))) h = refl
+
+pub ruleset given-exits = (free-large, free-left, free-bound, in-long, in-bound, ex-long, ex-bound, bad-kind)
+
+module _ (ka : ℕ) (a : List ℕ) (kb : ℕ) (b : List ℕ) (start : Bool) (g : Given) (e : givenOf a g ≡ boundGiven ka a) where
+  pub first-stops : {n : ℕ} → g ≡ GivenStop n → orderOf (ComparedStop n) ≡ cmpBoundOutcome ka a kb b start
+  unfolding cmpBoundOutcome
+  first-stops q = rw (← e, q)
+
+  module _ {j : Kind} (q : g ≡ GivenBound j) (h : Given) (f : givenOf b h ≡ boundGiven kb b) where
+    pub second-stops : {n : ℕ} → h ≡ GivenStop n → orderOf (ComparedStop n) ≡ cmpBoundOutcome ka a kb b start
+    unfolding cmpBoundOutcome
+    second-stops w = rw (← e, q, ← f, w)
+
+    pub bounds-ordered : {k : Kind} {o : Order} {z : ℤ} → h ≡ GivenBound k → o ≡ cmpBound start (boundOf j a) (boundOf k b) → z ≡ sign o → orderOf (Ordered z) ≡ cmpBoundOutcome ka a kb b start
+    unfolding cmpBoundOutcome
+    bounds-ordered w u v = rw (← e, q, ← f, w, v, u)
+
+pub ruleset bound-exits = (first-stops, second-stops, bounds-ordered)
+
+-- ---- one range
+module _ {l : List ℕ} {r : RangeRead} (w : RangeWhole l r) where
+  pub range-stops : {n : ℕ} → r ≡ RangeStop n → whole readRange l ≡ stop n
+  range-stops q = sym (w .meaning) ∙ rw q
+
+  module _ {s e : BoundSpan} {n : ℕ} (q : r ≡ RangeAt s e n) where
+    pub range-is : whole readRange l ≡ answer (rangeIn l s e)
+    range-is = sym (w .meaning) ∙ rw q
+
+    pub start-inside : BoundInside l s
+    start-inside = (rw q at (w .inside)) .0
+
+    pub end-inside : BoundInside l e
+    end-inside = (rw q at (w .inside)) .1 .0
+
+    pub tested : {t : Bool} → t ≡ nonEmpty (rangeIn l s e) → testOf (Is t) ≡ nonEmptyOutcome l
+    unfolding nonEmptyOutcome
+    tested h = rw (range-is, h)
+
+    pub key-too-long : (key : List ℕ) → 1024 < length key → testOf (TestedStop 3) ≡ containsOutcome l key
+    unfolding containsOutcome
+    key-too-long key h = rw (range-is, key-long key h)
+
+    module _ {t : Bool} (h : t ≡ nonEmpty (rangeIn l s e)) where
+      pub key-failing : (key : List ℕ) → length key ≤ 1024 → t ≡ false → testOf (TestedStop 4) ≡ containsOutcome l key
+      unfolding containsOutcome
+      key-failing key k z = rw (range-is, key-fits key k, ← h, z)
+
+      pub key-held : (key : List ℕ) {u : Bool} → length key ≤ 1024 → t ≡ true → u ≡ holds (rangeIn l s e) key → testOf (Is u) ≡ containsOutcome l key
+      unfolding containsOutcome
+      key-held key k z v = rw (range-is, key-fits key k, ← h, z, v)
+
+      pub point-failing : t ≡ false → PointFound l (asPointOutcome l) (Stop 4)
+      unfolding asPointOutcome rangeGiven
+      point-failing z = record { meaning = rw (range-is, ← h, z); inside = tt }
+
+      pub is-point : {u : Bool} → t ≡ true → pointIf u (take (s .len) (drop (s .at) l)) ≡ asPoint (rangeIn l s e) → u ≡ true → PointFound l (asPointOutcome l) (At (s .at) (s .len))
+      unfolding asPointOutcome rangeGiven
+      is-point z v k = record { meaning = rw (range-is, ← h, z, ← v, k); inside = start-inside }
+
+      pub no-point : {u : Bool} → t ≡ true → pointIf u (take (s .len) (drop (s .at) l)) ≡ asPoint (rangeIn l s e) → u ≡ false → PointFound l (asPointOutcome l) Nothing
+      unfolding asPointOutcome rangeGiven
+      no-point z v k = record { meaning = rw (range-is, ← h, z, ← v, k); inside = tt }
+
+  pub not-tested : {n : ℕ} → r ≡ RangeStop n → testOf (TestedStop n) ≡ nonEmptyOutcome l
+  unfolding nonEmptyOutcome
+  not-tested q = rw (range-stops q)
+
+  pub not-held : (key : List ℕ) {n : ℕ} → r ≡ RangeStop n → testOf (TestedStop n) ≡ containsOutcome l key
+  unfolding containsOutcome
+  not-held key q = rw (range-stops q)
+
+  pub not-a-point : {n : ℕ} → r ≡ RangeStop n → PointFound l (asPointOutcome l) (Stop n)
+  unfolding asPointOutcome rangeGiven
+  not-a-point q = record { meaning = rw (range-stops q); inside = tt }
+
+pub ruleset inside-exits = (start-inside, end-inside)
+
+pub ruleset range-exits = (start-inside, end-inside, tested, not-tested, key-too-long, key-failing, key-held, not-held, point-failing, is-point, no-point, not-a-point)

@@ -1,0 +1,169 @@
+-- The exits of the calls on two ranges.
+-- Assumes nothing.
+use Prim.Native.Nat.{ℕ}
+use mathlib.Core.Path.{_≡_, refl, sym, _∙_, ap}
+use mathlib.Core.Bool.{Bool, true, false}
+use mathlib.Core.Option.{Option, none, some}
+use mathlib.Core.List.{List, []}
+use lib.ListN.{take}
+use Rattle.base.specs.Outcome.{Outcome, stop, answer}
+use Rattle.key.specs.Order.{Key}
+use Rattle.comparable_range.specs.Range.{Range, nonEmpty, of, intersectSides, unionSides}
+use Rattle.comparable_range.specs.declared.Side.{Side}
+use Rattle.comparable_range.specs.declared.Side.the-variants.{First, Second}
+use Rattle.comparable_range.specs.declared.Sides.{Sides}
+use Rattle.comparable_range.specs.declared.Sides.the-variants.{Nothing as NoSides, From}
+use Rattle.format.specs.Range.{rangeIn, boundIn, BoundInside, RangeWhole}
+use Rattle.format.specs.declared.range.BoundSpan.{BoundSpan}
+use Rattle.format.specs.declared.range.RangeRead.{RangeRead}
+use Rattle.format.specs.declared.range.RangeRead.the-variants.{At as RangeAt, Stop as RangeStop}
+use Rattle.bytes_range.specs.Writing.{SuppliedInside, suppliedBound, boundKey}
+use Rattle.bytes_range.specs.declared.span.Supplied.{Supplied}
+use Rattle.bilqarush.specs.Calls.{Pair, rangesGiven, Joint, joint, intersectOutcome, unionOutcome}
+use Rattle.bilqarush.specs.Answers.{bothOf, BothFound, suppliedBy, joinedBy, supply, jointOf, JointInside, JointFound, startKeyOf, endKeyOf}
+use Rattle.bilqarush.specs.declared.Both.{Both}
+use Rattle.bilqarush.specs.declared.Both.the-variants.{Ranges, Stop as BothStop}
+use Rattle.bilqarush.specs.declared.Joined.{Joined}
+use Rattle.bilqarush.specs.declared.Joined.the-variants.{Range as Found, Nothing, Stop}
+use Rattle.bilqarush.proofs.Checks.{range-stops, range-is, start-inside, end-inside}
+
+-- ---- ranges_given
+module _ {a : List ℕ} (b : List ℕ) {r : RangeRead} (w : RangeWhole a r) where
+  pub first-stops : {n : ℕ} → r ≡ RangeStop n → BothFound a b (BothStop n)
+  unfolding rangesGiven
+  first-stops q = record { meaning = rw (range-stops w q); inside = tt }
+
+module _ {a b : List ℕ} {r q : RangeRead} (w : RangeWhole a r) (v : RangeWhole b q) {s e : BoundSpan} {n : ℕ} (x : r ≡ RangeAt s e n) where
+  pub second-stops : {m : ℕ} → q ≡ RangeStop m → BothFound a b (BothStop m)
+  unfolding rangesGiven
+  second-stops y = record { meaning = rw (range-is w x, range-stops v y); inside = tt }
+
+  module _ {t f : BoundSpan} {m : ℕ} (y : q ≡ RangeAt t f m) {i : Bool} (h : i ≡ nonEmpty (rangeIn a s e)) where
+    pub first-fails : i ≡ false → BothFound a b (BothStop 4)
+    unfolding rangesGiven
+    first-fails z = record { meaning = rw (range-is w x, range-is v y, ← h, z); inside = tt }
+
+    module _ (z : i ≡ true) {j : Bool} (g : j ≡ nonEmpty (rangeIn b t f)) where
+      pub second-fails : j ≡ false → BothFound a b (BothStop 4)
+      unfolding rangesGiven
+      second-fails k = record { meaning = rw (range-is w x, range-is v y, ← h, z, ← g, k); inside = tt }
+
+      pub both-pass : j ≡ true → BothFound a b (Ranges s e t f)
+      unfolding rangesGiven
+      both-pass k =
+          record {
+            meaning = rw (range-is w x, range-is v y, ← h, z, ← g, k);
+            inside = (start-inside w x, (end-inside w x, (start-inside v y, end-inside v y)));
+          }
+
+pub ruleset pair-exits = (first-stops, second-stops, first-fails, second-fails, both-pass, start-inside, end-inside)
+
+-- ---- supplied, joined
+module _ {side : Side} (x y : BoundSpan) where
+  pub from-first : side ≡ First → record { side = side; bound = x } ≡ suppliedBy side x y
+  from-first h = rw h
+
+  pub from-second : side ≡ Second → record { side = side; bound = y } ≡ suppliedBy side x y
+  from-second h = rw h
+
+module _ (s e t f : BoundSpan) {i : Sides} where
+  pub none-joined : i ≡ NoSides → Nothing ≡ joinedBy i s e t f
+  none-joined h = rw h
+
+  pub one-joined : {x y : Side} {u v : Supplied} → i ≡ From x y → u ≡ suppliedBy x s t → v ≡ suppliedBy y e f → Found u v ≡ joinedBy i s e t f
+  one-joined h p q = rw (h, p, q)
+
+pub ruleset joined-exits = (from-first, from-second, none-joined, one-joined)
+
+-- ---- a range joined from two that were given
+side-bound : (side : Side) (a b : List ℕ) (x y : BoundSpan) → boundIn (of side a b) (of side x y) ≡ of side (boundIn a x) (boundIn b y)
+side-bound First a b x y = refl
+side-bound Second a b x y = refl
+
+side-inside : (side : Side) (a b : List ℕ) (x y : BoundSpan) → BoundInside a x → BoundInside b y → BoundInside (of side a b) (of side x y)
+side-inside First a b x y h k = h
+side-inside Second a b x y h k = k
+
+module _ {a b : List ℕ} {r : Both} (w : BothFound a b r) {s e t f : BoundSpan} (q : r ≡ Ranges s e t f) where
+  abbrev pair : Pair
+  pair = record { first = rangeIn a s e; second = rangeIn b t f }
+
+  pub given-is : rangesGiven a b ≡ answer pair
+  given-is = sym (w .meaning) ∙ rw q
+
+  places : BoundInside a s × (BoundInside a e × (BoundInside b t × BoundInside b f))
+  places = rw q at (w .inside)
+
+  pub in-1 : BoundInside a s
+  in-1 = places .0
+
+  pub in-2 : BoundInside a e
+  in-2 = places .1 .0
+
+  pub in-3 : BoundInside b t
+  in-3 = places .1 .1 .0
+
+  pub in-4 : BoundInside b f
+  in-4 = places .1 .1 .1
+
+  meant : (i : Sides) → jointOf a b (joinedBy i s e t f) ≡ answer (joint pair i)
+  meant NoSides = refl
+  meant (From x y) = rw (side-bound x a b s t, side-bound y a b e f)
+
+  within : (i : Sides) → JointInside a b (joinedBy i s e t f)
+  within NoSides = tt
+  within (From x y) = (side-inside x a b s t in-1 in-3, side-inside y a b e f in-2 in-4)
+
+  made : (i : Sides) {j : Joined} (g : Outcome (Option Joint)) → j ≡ joinedBy i s e t f → answer (joint pair i) ≡ g → JointFound a b g j
+  made i g h k = rw h (record { meaning = meant i ∙ k; inside = within i })
+
+  pub intersection : {i : Sides} {j : Joined} → i ≡ intersectSides (rangeIn a s e) (rangeIn b t f) → j ≡ joinedBy i s e t f → JointFound a b (intersectOutcome a b) j
+  unfolding intersectOutcome
+  intersection {i} h k = made i _ k (rw (given-is, h))
+
+  pub union-made : {i : Sides} {j : Joined} → i ≡ unionSides (rangeIn a s e) (rangeIn b t f) → j ≡ joinedBy i s e t f → JointFound a b (unionOutcome a b) j
+  unfolding unionOutcome
+  union-made {i} h k = made i _ k (rw (given-is, h))
+
+module _ {a b : List ℕ} {r : Both} (w : BothFound a b r) {n : ℕ} (q : r ≡ BothStop n) where
+  given-stops : rangesGiven a b ≡ stop n
+  given-stops = sym (w .meaning) ∙ rw q
+
+  pub no-intersection : JointFound a b (intersectOutcome a b) (Stop n)
+  unfolding intersectOutcome
+  no-intersection = record { meaning = rw given-stops; inside = tt }
+
+  pub no-union : JointFound a b (unionOutcome a b) (Stop n)
+  unfolding unionOutcome
+  no-union = record { meaning = rw given-stops; inside = tt }
+
+pub ruleset join-exits = (in-1, in-2, in-3, in-4, intersection, union-made, no-intersection, no-union)
+
+-- ---- the keys of an intersection
+module _ {a b : List ℕ} {g : Outcome (Option Joint)} {r : Joined} (w : JointFound a b g r) where
+  pub stopped-start : {n : ℕ} → r ≡ Stop n → take 0 a ≡ startKeyOf g
+  stopped-start q = rw (← (w .meaning), q)
+
+  pub stopped-end : {n : ℕ} → r ≡ Stop n → take 0 a ≡ endKeyOf g
+  stopped-end q = rw (← (w .meaning), q)
+
+  pub no-start : r ≡ Nothing → take 0 a ≡ startKeyOf g
+  no-start q = rw (← (w .meaning), q)
+
+  pub no-end : r ≡ Nothing → take 0 a ≡ endKeyOf g
+  no-end q = rw (← (w .meaning), q)
+
+  module _ {x y : Supplied} (q : r ≡ Found x y) where
+    pub start-place : SuppliedInside a b x
+    start-place = (rw q at (w .inside)) .0
+
+    pub end-place : SuppliedInside a b y
+    end-place = (rw q at (w .inside)) .1
+
+    pub start-key : {k : Key} → k ≡ boundKey (suppliedBound a b x) → k ≡ startKeyOf g
+    start-key h = h ∙ rw (← (w .meaning), q)
+
+    pub end-key : {k : Key} → k ≡ boundKey (suppliedBound a b y) → k ≡ endKeyOf g
+    end-key h = h ∙ rw (← (w .meaning), q)
+
+pub ruleset key-exits = (stopped-start, stopped-end, no-start, no-end, start-place, end-place, start-key, end-key)

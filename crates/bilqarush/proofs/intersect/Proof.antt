@@ -1,0 +1,39 @@
+-- `bilqarush::intersect` meets its contract.
+-- Assumes nothing.
+use Rattle.bilqarush.proofs.Pairs.{join-exits}
+use borrow.Author.Needs.{needs}
+use Rattle.bilqarush.proofs.intersect.Statement.{statement}
+use Rattle.bilqarush.proofs.intersect.Tie as tie
+
+ranges-given-requires : tie.Need-ranges-given-requires
+ranges-given-requires c κs = search (needs, join-exits)
+
+enum-known-n : tie.Need-enum-known-n
+enum-known-n c = search (needs, join-exits)
+
+enum-known-s : tie.Need-enum-known-s
+enum-known-s c = search (needs, join-exits)
+
+intersect-requires : tie.Need-intersect-requires
+intersect-requires c κs = search (needs, join-exits)
+
+from-sides-requires : tie.Need-from-sides-requires
+from-sides-requires c κs = search (needs, join-exits)
+
+returns : tie.Need-returns
+returns c = search (needs, join-exits)
+
+returns-2 : tie.Need-returns-2
+returns-2 c = search (needs, join-exits)
+
+pub intersect-spec : {M : Type 1} → statement M
+intersect-spec =
+    tie.close
+    (tie.spec
+    ranges-given-requires
+    enum-known-n
+    enum-known-s
+    intersect-requires
+    from-sides-requires
+    returns
+    returns-2)

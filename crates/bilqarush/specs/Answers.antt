@@ -1,0 +1,107 @@
+-- What the enum that a call answers says: the number of a stop, or values that stand in the slices it was lent.
+use Prim.Native.Nat.{ℕ, _+_, _≤_}
+use mathlib.Core.Path.{_≡_}
+use mathlib.Core.Bool.{Bool}
+use mathlib.Core.Option.{Option, none, some}
+use mathlib.Core.List.{List, []}
+use lib.IntN.{ℤ}
+use lib.ListN.{length, take, drop}
+use Rattle.base.specs.Outcome.{Outcome, stop, answer}
+use Rattle.key.specs.Order.{Key}
+use Rattle.comparable_range.specs.Range.{Bound, boundOf, of}
+use Rattle.comparable_range.specs.declared.Side.{Side}
+use Rattle.comparable_range.specs.declared.Sides.{Sides}
+use Rattle.comparable_range.specs.declared.Sides.the-variants.{Nothing as NoSides, From}
+use Rattle.format.specs.Range.{rangeIn, BoundInside}
+use Rattle.format.specs.declared.range.BoundSpan.{BoundSpan}
+use Rattle.bytes_range.specs.Writing.{SuppliedInside, suppliedBound, boundKey}
+use Rattle.bytes_range.specs.declared.span.Supplied.{Supplied}
+use Rattle.bilqarush.specs.Calls.{Supply, Joint, Pair, rangesGiven}
+use Rattle.bilqarush.specs.declared.Given.{Given}
+use Rattle.bilqarush.specs.declared.Given.the-variants.{Bound as GivenBound, Stop as GivenStop}
+use Rattle.bilqarush.specs.declared.Both.{Both}
+use Rattle.bilqarush.specs.declared.Both.the-variants.{Ranges, Stop as BothStop}
+use Rattle.bilqarush.specs.declared.Compared.{Compared}
+use Rattle.bilqarush.specs.declared.Compared.the-variants.{Order, Stop as ComparedStop}
+use Rattle.bilqarush.specs.declared.Tested.{Tested}
+use Rattle.bilqarush.specs.declared.Tested.the-variants.{Is, Stop as TestedStop}
+use Rattle.bilqarush.specs.declared.Point.{Point}
+use Rattle.bilqarush.specs.declared.Point.the-variants.{At, Nothing as NoPoint, Stop as PointStop}
+use Rattle.bilqarush.specs.declared.Joined.{Joined}
+use Rattle.bilqarush.specs.declared.Joined.the-variants.{Range, Nothing, Stop}
+
+abbrev pub orderOf : Compared → Outcome ℤ
+orderOf (Order z) = answer z
+orderOf (ComparedStop n) = stop n
+
+abbrev pub testOf : Tested → Outcome Bool
+testOf (Is t) = answer t
+testOf (TestedStop n) = stop n
+
+-- ---- what the code keeps of its arguments
+abbrev pub givenOf : Key → Given → Outcome Bound
+givenOf k (GivenBound j) = answer (boundOf j k)
+givenOf k (GivenStop n) = stop n
+
+abbrev pub bothOf : List ℕ → List ℕ → Both → Outcome Pair
+bothOf a b (Ranges s e t f) = answer (record { first = rangeIn a s e; second = rangeIn b t f })
+bothOf a b (BothStop n) = stop n
+
+abbrev pub BothInside : List ℕ → List ℕ → Both → Type 0
+BothInside a b (Ranges s e t f) = BoundInside a s × (BoundInside a e × (BoundInside b t × BoundInside b f))
+BothInside a b (BothStop n) = Unit
+
+pub record BothFound (a b : List ℕ) (r : Both) : Type 0 where
+  pub meaning : bothOf a b r ≡ rangesGiven a b
+  pub inside : BothInside a b r
+
+abbrev pub suppliedBy : Side → BoundSpan → BoundSpan → Supplied
+suppliedBy side x y = record { side = side; bound = of side x y }
+
+abbrev pub joinedBy : Sides → BoundSpan → BoundSpan → BoundSpan → BoundSpan → Joined
+joinedBy NoSides s e t f = Nothing
+joinedBy (From x y) s e t f = Range (suppliedBy x s t) (suppliedBy y e f)
+
+-- ---- a point: a part of the slice s
+abbrev pub pointOf : List ℕ → Point → Outcome (Option Key)
+pointOf s (At at len) = answer (some (take len (drop at s)))
+pointOf s NoPoint = answer none
+pointOf s (PointStop n) = stop n
+
+abbrev pub PointInside : List ℕ → Point → Type 0
+PointInside s (At at len) = at + len ≤ length s
+PointInside s NoPoint = Unit
+PointInside s (PointStop n) = Unit
+
+pub record PointFound (s : List ℕ) (g : Outcome (Option Key)) (r : Point) : Type 0 where
+  pub meaning : pointOf s r ≡ g
+  pub inside : PointInside s r
+
+-- ---- a range whose bounds are parts of the slices a and b
+abbrev pub supply : List ℕ → List ℕ → Supplied → Supply
+supply a b x = record { side = x .side; bound = suppliedBound a b x }
+
+abbrev pub jointOf : List ℕ → List ℕ → Joined → Outcome (Option Joint)
+jointOf a b (Range s e) = answer (some (record { start = supply a b s; end = supply a b e }))
+jointOf a b Nothing = answer none
+jointOf a b (Stop n) = stop n
+
+abbrev pub JointInside : List ℕ → List ℕ → Joined → Type 0
+JointInside a b (Range s e) = SuppliedInside a b s × SuppliedInside a b e
+JointInside a b Nothing = Unit
+JointInside a b (Stop n) = Unit
+
+pub record JointFound (a b : List ℕ) (g : Outcome (Option Joint)) (r : Joined) : Type 0 where
+  pub meaning : jointOf a b r ≡ g
+  pub inside : JointInside a b r
+
+-- ---- the key of an answered range's bound: empty after a stop, for no range, and for an unbounded bound
+abbrev pub startKeyOf : Outcome (Option Joint) → Key
+startKeyOf (stop n) = []
+startKeyOf (answer none) = []
+startKeyOf (answer (some j)) = boundKey (j .start .bound)
+
+abbrev pub endKeyOf : Outcome (Option Joint) → Key
+endKeyOf (stop n) = []
+endKeyOf (answer none) = []
+endKeyOf (answer (some j)) = boundKey (j .end .bound)

@@ -1,0 +1,94 @@
+-- The outcome of each public call: the checks in their order, then the answer. Document 01, "Ranges" and "Stops".
+use Prim.Native.Nat.{ℕ, zero, suc}
+use mathlib.Core.Bool.{Bool, _&&_}
+use mathlib.Core.Option.{Option, none, some}
+use mathlib.Core.List.{List, [], _∷_}
+use lib.IntN.{ℤ}
+use lib.ListN.{length}
+use lib.Dec.{leb}
+use Rattle.base.specs.Outcome.{Outcome, stop, answer, andThen, check, writtenTo}
+use Rattle.key.specs.Order.{Key, cmpKey, sign}
+use Rattle.comparable_range.specs.Range.{Bound, unbounded, included, excluded, Range, cmpBound, nonEmpty, holds, of, intersectSides, unionSides}
+use Rattle.comparable_range.specs.declared.Side.{Side}
+use Rattle.comparable_range.specs.declared.Sides.{Sides}
+use Rattle.comparable_range.specs.declared.Sides.the-variants.{Nothing, From}
+use Rattle.format.specs.Range.{readRange, writeRange}
+use Rattle.format.specs.Whole.{whole, keyGiven}
+use Rattle.bytes_range.specs.Prefix.{fromPrefix, asPoint}
+use Rattle.bytes_range.specs.Writing.{joinedTo}
+
+-- ---- what is given
+-- a range that passes `non_empty`
+unfoldable pub rangeGiven : List ℕ → Outcome Range
+rangeGiven l = andThen (whole readRange l) (λ r. check 4 (nonEmpty r) (answer r))
+
+pub record Pair : Type 0 where
+  pub first : Range
+  pub second : Range
+
+-- two ranges: check 4 covers both
+unfoldable pub rangesGiven : List ℕ → List ℕ → Outcome Pair
+rangesGiven a b =
+    andThen (whole readRange a) (λ r. andThen (whole readRange b) (λ q. check 4 (nonEmpty r && nonEmpty q) (answer (record { first = r; second = q }))))
+
+-- A bound that is an argument of its own: the number of its kind, and its key. An unbounded one has no key, so bytes that
+-- are given for it are left over.
+abbrev pub nothingLeft : List ℕ → Outcome Bound
+nothingLeft [] = answer unbounded
+nothingLeft (b ∷ l) = stop 1
+
+unfoldable pub boundGiven : ℕ → List ℕ → Outcome Bound
+boundGiven zero l = check 3 (leb (length l) 65536) (nothingLeft l)
+boundGiven (suc zero) l = andThen (keyGiven l) (λ k. answer (included k))
+boundGiven (suc (suc zero)) l = andThen (keyGiven l) (λ k. answer (excluded k))
+boundGiven (suc (suc (suc n))) l = stop 2
+
+-- ---- the calls
+unfoldable pub compareOutcome : List ℕ → List ℕ → Outcome ℤ
+compareOutcome a b = andThen (keyGiven a) (λ j. andThen (keyGiven b) (λ k. answer (sign (cmpKey j k))))
+
+unfoldable pub cmpBoundOutcome : ℕ → List ℕ → ℕ → List ℕ → Bool → Outcome ℤ
+cmpBoundOutcome ka a kb b start =
+    andThen (boundGiven ka a) (λ x. andThen (boundGiven kb b) (λ y. answer (sign (cmpBound start x y))))
+
+unfoldable pub nonEmptyOutcome : List ℕ → Outcome Bool
+nonEmptyOutcome l = andThen (whole readRange l) (λ r. answer (nonEmpty r))
+
+unfoldable pub containsOutcome : List ℕ → List ℕ → Outcome Bool
+containsOutcome l key =
+    andThen (whole readRange l) (λ r. andThen (keyGiven key) (λ k. check 4 (nonEmpty r) (answer (holds r k))))
+
+unfoldable pub asPointOutcome : List ℕ → Outcome (Option Key)
+asPointOutcome l = andThen (rangeGiven l) (λ r. answer (asPoint r))
+
+-- a bound, and which of the two given ranges supplied it
+pub record Supply : Type 0 where
+  pub side : Side
+  pub bound : Bound
+
+pub record Joint : Type 0 where
+  pub start : Supply
+  pub end : Supply
+
+abbrev pub joint : Pair → Sides → Option Joint
+joint p Nothing = none
+joint p (From s e) =
+    some (record {
+      start = record { side = s; bound = of s (p .first .start) (p .second .start) };
+      end = record { side = e; bound = of e (p .first .end) (p .second .end) };
+    })
+
+unfoldable pub intersectOutcome : List ℕ → List ℕ → Outcome (Option Joint)
+intersectOutcome a b = andThen (rangesGiven a b) (λ p. answer (joint p (intersectSides (p .first) (p .second))))
+
+unfoldable pub unionOutcome : List ℕ → List ℕ → Outcome (Option Joint)
+unionOutcome a b = andThen (rangesGiven a b) (λ p. answer (joint p (unionSides (p .first) (p .second))))
+
+-- ---- the calls that write, into a buffer of `room` bytes
+unfoldable pub fromPrefixOutcome : List ℕ → ℕ → Outcome (List ℕ)
+fromPrefixOutcome prefix room = andThen (keyGiven prefix) (λ p. writtenTo room (writeRange (fromPrefix p)))
+
+-- the prefix is read before its subrange; then a join of over 1,024 bytes is stop 3, before stop 4
+unfoldable pub fromPrefixAndSubrangeOutcome : List ℕ → List ℕ → ℕ → Outcome (List ℕ)
+fromPrefixAndSubrangeOutcome prefix subrange room =
+    andThen (keyGiven prefix) (λ p. andThen (whole readRange subrange) (λ r. joinedTo room p r))

@@ -1,0 +1,310 @@
+// The public calls. None has a `requires`: each takes any bytes, refuses by the numbers of document 01, and says what it
+// answers for each input as an equation with its definition in specs/Calls.antt. Ranges are range images; keys and
+// prefixes are lent as they are.
+use base::Written;
+use bytes_range::span::Supplied;
+use comparable_range::Kind;
+use comparable_range::Side;
+use comparable_range::Sides;
+use format::BoundSpan;
+use format::RangeRead;
+ghost use mathlib.Core.Path.{_≡_};
+ghost use lib.ListN.{length};
+ghost use Rattle.base.specs.Outcome.{reported, lent};
+ghost use Rattle.bilqarush.specs.Calls.{boundGiven, compareOutcome, cmpBoundOutcome, nonEmptyOutcome, containsOutcome, asPointOutcome, intersectOutcome, unionOutcome, fromPrefixOutcome, fromPrefixAndSubrangeOutcome};
+ghost use Rattle.bilqarush.specs.Answers.{givenOf, orderOf, testOf, BothFound, suppliedBy, joinedBy, PointFound, JointFound, startKeyOf, endKeyOf};
+
+// A comparison's answer: -1, 0 or 1, or the number of a stop.
+pub enum Compared {
+    Order(i8),
+    Stop(u8),
+}
+
+// A test's answer.
+pub enum Tested {
+    Is(bool),
+    Stop(u8),
+}
+
+// A point: the place of its key in the lent slice and its length.
+pub enum Point {
+    At(usize, usize),
+    Nothing,
+    Stop(u8),
+}
+
+// A range of which each bound stands in one of the two lent slices.
+pub enum Joined {
+    Range(Supplied, Supplied),
+    Nothing,
+    Stop(u8),
+}
+
+// The order of two keys.
+pub fn compare(a: &[u8], b: &[u8]) -> Compared
+    ensures { λ r. ⌜ orderOf r ≡ compareOutcome (now (a .entry)) (now (b .entry)) ⌝ }
+{
+    if 1024 < a.len() {
+        return Compared::Stop(3);
+    }
+    if 1024 < b.len() {
+        return Compared::Stop(3);
+    }
+    Compared::Order(key::number(key::cmp(a, b)))
+}
+
+// What a bound is that is given by its kind's number and its key.
+pub enum Given {
+    Bound(Kind),
+    Stop(u8),
+}
+
+fn bound_given(kind: u8, key: &[u8]) -> Given
+    ensures { λ r. ⌜ givenOf (now (key .entry)) r ≡ boundGiven kind (now (key .entry)) ⌝ }
+{
+    match kind {
+        0 => {
+            if 65536 < key.len() {
+                return Given::Stop(3);
+            }
+            if 0 < key.len() {
+                return Given::Stop(1);
+            }
+            Given::Bound(Kind::Unbounded)
+        }
+        1 => {
+            if 1024 < key.len() {
+                return Given::Stop(3);
+            }
+            Given::Bound(Kind::Included)
+        }
+        2 => {
+            if 1024 < key.len() {
+                return Given::Stop(3);
+            }
+            Given::Bound(Kind::Excluded)
+        }
+        3..=255 => Given::Stop(2),
+    }
+}
+
+// The order of two bounds, both starts or both ends.
+pub fn cmp_bound(a_kind: u8, a: &[u8], b_kind: u8, b: &[u8], start: bool) -> Compared
+    ensures { λ r. ⌜ orderOf r ≡ cmpBoundOutcome «a_kind» (now (a .entry)) «b_kind» (now (b .entry)) start ⌝ }
+{
+    match bound_given(a_kind, a) {
+        Given::Stop(n) => Compared::Stop(n),
+        Given::Bound(ka) => match bound_given(b_kind, b) {
+            Given::Stop(n) => Compared::Stop(n),
+            Given::Bound(kb) => Compared::Order(key::number(comparable_range::cmp_bound(
+                ka,
+                a,
+                kb,
+                b,
+                start,
+            ))),
+        },
+    }
+}
+
+// Whether a range passes the Rust's test.
+pub fn non_empty(range: &[u8]) -> Tested
+    ensures { λ r. ⌜ testOf r ≡ nonEmptyOutcome (now (range .entry)) ⌝ }
+{
+    match format::range_whole(range) {
+        RangeRead::Stop(n) => Tested::Stop(n),
+        RangeRead::At {
+            start,
+            end,
+            next: _,
+        } => Tested::Is(format::passes(range, start, end)),
+    }
+}
+
+// Whether a range holds a key.
+pub fn contains(range: &[u8], key: &[u8]) -> Tested
+    ensures { λ r. ⌜ testOf r ≡ containsOutcome (now (range .entry)) (now (key .entry)) ⌝ }
+{
+    match format::range_whole(range) {
+        RangeRead::Stop(n) => Tested::Stop(n),
+        RangeRead::At {
+            start,
+            end,
+            next: _,
+        } => {
+            if 1024 < key.len() {
+                return Tested::Stop(3);
+            }
+            if format::passes(range, start, end) {
+                return Tested::Is(bytes_range::span::contains(range, start, end, key));
+            }
+            Tested::Stop(4)
+        }
+    }
+}
+
+// The key of a range that is one point.
+pub fn as_point(range: &[u8]) -> Point
+    ensures { λ r. ⌜ PointFound (now (range .entry)) (asPointOutcome (now (range .entry))) r ⌝ }
+{
+    match format::range_whole(range) {
+        RangeRead::Stop(n) => Point::Stop(n),
+        RangeRead::At {
+            start,
+            end,
+            next: _,
+        } => {
+            if format::passes(range, start, end) {
+                if bytes_range::span::is_point(range, start, end) {
+                    return Point::At(start.at, start.len);
+                }
+                return Point::Nothing;
+            }
+            Point::Stop(4)
+        }
+    }
+}
+
+// Two ranges: the start and the end of the first, then of the second.
+pub enum Both {
+    Ranges(BoundSpan, BoundSpan, BoundSpan, BoundSpan),
+    Stop(u8),
+}
+
+fn ranges_given(a: &[u8], b: &[u8]) -> Both
+    ensures { λ r. ⌜ BothFound (now (a .entry)) (now (b .entry)) r ⌝ }
+{
+    match format::range_whole(a) {
+        RangeRead::Stop(n) => Both::Stop(n),
+        RangeRead::At {
+            start: s,
+            end: e,
+            next: _,
+        } => match format::range_whole(b) {
+            RangeRead::Stop(n) => Both::Stop(n),
+            RangeRead::At {
+                start: t,
+                end: f,
+                next: _,
+            } => {
+                if format::passes(a, s, e) {
+                    if format::passes(b, t, f) {
+                        return Both::Ranges(s, e, t, f);
+                    }
+                    return Both::Stop(4);
+                }
+                Both::Stop(4)
+            }
+        },
+    }
+}
+
+// The bound of a side.
+fn supplied(side: Side, a: BoundSpan, b: BoundSpan) -> Supplied
+    ensures { λ r. ⌜ r ≡ suppliedBy side a b ⌝ }
+{
+    match side {
+        Side::First => Supplied { side, bound: a },
+        Side::Second => Supplied { side, bound: b },
+    }
+}
+
+// The range whose bounds the sides supply.
+fn from_sides(sides: Sides, s: BoundSpan, e: BoundSpan, t: BoundSpan, f: BoundSpan) -> Joined
+    ensures { λ r. ⌜ r ≡ joinedBy sides s e t f ⌝ }
+{
+    match sides {
+        Sides::Nothing => Joined::Nothing,
+        Sides::From(x, y) => Joined::Range(supplied(x, s, t), supplied(y, e, f)),
+    }
+}
+
+// The intersection of two ranges. Of equal bounds, the second range's start and the first's end are answered.
+pub fn intersect<'a>(a: &'a [u8], b: &'a [u8]) -> Joined
+    ensures { λ r. ⌜ JointFound (now (a .entry)) (now (b .entry)) (intersectOutcome (now (a .entry)) (now (b .entry))) r ⌝ }
+{
+    match ranges_given(a, b) {
+        Both::Stop(n) => Joined::Stop(n),
+        Both::Ranges(s, e, t, f) => from_sides(
+            bytes_range::span::intersect(a, s, e, b, t, f),
+            s,
+            e,
+            t,
+            f,
+        ),
+    }
+}
+
+// The key of the intersection's start, as a part of the slice that supplied it.
+pub fn intersect_start_key<'a>(a: &'a [u8], b: &'a [u8]) -> &'a [u8]
+    ensures { λ r. ⌜ now r ≡ startKeyOf (intersectOutcome (now (a .entry)) (now (b .entry))) ⌝ }
+{
+    match intersect(a, b) {
+        Joined::Stop(_) => &a[..0],
+        Joined::Nothing => &a[..0],
+        Joined::Range(start, _) => bytes_range::span::supplied_key(a, b, start),
+    }
+}
+
+// The key of its end.
+pub fn intersect_end_key<'a>(a: &'a [u8], b: &'a [u8]) -> &'a [u8]
+    ensures { λ r. ⌜ now r ≡ endKeyOf (intersectOutcome (now (a .entry)) (now (b .entry))) ⌝ }
+{
+    match intersect(a, b) {
+        Joined::Stop(_) => &a[..0],
+        Joined::Nothing => &a[..0],
+        Joined::Range(_, end) => bytes_range::span::supplied_key(a, b, end),
+    }
+}
+
+// The union of two ranges, where the Rust has one.
+pub fn union<'a>(a: &'a [u8], b: &'a [u8]) -> Joined
+    ensures { λ r. ⌜ JointFound (now (a .entry)) (now (b .entry)) (unionOutcome (now (a .entry)) (now (b .entry))) r ⌝ }
+{
+    match ranges_given(a, b) {
+        Both::Stop(n) => Joined::Stop(n),
+        Both::Ranges(s, e, t, f) => from_sides(
+            bytes_range::span::union(a, s, e, b, t, f),
+            s,
+            e,
+            t,
+            f,
+        ),
+    }
+}
+
+// The range of the keys that begin with a prefix, written to the front of a lent buffer.
+pub fn from_prefix(prefix: &[u8], out: &mut [u8]) -> Written
+    ensures { λ r. ⌜ r ≡ reported (fromPrefixOutcome (now (prefix .entry)) (length (now (out .entry)))) ⌝ }
+    ensures { λ r. ⌜ now (out .exit) ≡ lent (now (out .entry)) (fromPrefixOutcome (now (prefix .entry)) (length (now (out .entry)))) ⌝ }
+{
+    if 1024 < prefix.len() {
+        return Written::Stop(3);
+    }
+    bytes_range::from_prefix_and_subrange(
+        prefix,
+        Kind::Unbounded,
+        &prefix[..0],
+        Kind::Unbounded,
+        &prefix[..0],
+        out,
+    )
+}
+
+// The range of the keys that are a prefix and then a key of a subrange, written to the front of a lent buffer.
+pub fn from_prefix_and_subrange(prefix: &[u8], subrange: &[u8], out: &mut [u8]) -> Written
+    ensures { λ r. ⌜ r ≡ reported (fromPrefixAndSubrangeOutcome (now (prefix .entry)) (now (subrange .entry)) (length (now (out .entry)))) ⌝ }
+    ensures { λ r. ⌜ now (out .exit) ≡ lent (now (out .entry)) (fromPrefixAndSubrangeOutcome (now (prefix .entry)) (now (subrange .entry)) (length (now (out .entry)))) ⌝ }
+{
+    if 1024 < prefix.len() {
+        return Written::Stop(3);
+    }
+    match format::range_whole(subrange) {
+        RangeRead::Stop(n) => Written::Stop(n),
+        RangeRead::At {
+            start,
+            end,
+            next: _,
+        } => bytes_range::span::join(prefix, subrange, start, end, out),
+    }
+}
