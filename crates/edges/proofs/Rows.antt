@@ -1,0 +1,23 @@
+-- The rows hold by computing both sides.
+-- Assumes nothing.
+use mathlib.Core.Path.{_≡_, refl}
+use mathlib.Core.List.{map}
+use Rattle.key.specs.Order.{cmpNumber, cmpKey}
+use Rattle.comparable_range.specs.Range.{excluded, cmpBound, boundsPass, startHolds, endHolds, holds}
+use Rattle.comparable_range.specs.Laws.{keylessBounds}
+use Rattle.comparable_range.proofs.Keyless.{keyless-pass-and-hold-none}
+use Rattle.format.specs.Number.{digits, readNumber, writeNumber}
+use Rattle.format.specs.Key.{readBytes, readKey, writeKey}
+use Rattle.format.specs.Range.{headOf, readBound, writeBound, readRange, writeRange}
+use Rattle.format.specs.Whole.{whole, keyGiven}
+use Rattle.bytes_range.specs.Prefix.{keptOf, raised, nextPrefix, fromPrefix}
+use Rattle.bilqarush.specs.Calls.{boundGiven, cmpBoundOutcome, nonEmptyOutcome, containsOutcome, fromPrefixOutcome}
+use Rattle.edges.specs.Edges.{edges, EdgesHold, NothingBetween}
+
+pub edges-hold : EdgesHold
+unfolding edges cmpNumber cmpKey cmpBound boundsPass startHolds endHolds holds keylessBounds digits readNumber writeNumber readBytes readKey writeKey headOf readBound writeBound readRange writeRange whole keyGiven keptOf raised nextPrefix fromPrefix boundGiven cmpBoundOutcome nonEmptyOutcome containsOutcome fromPrefixOutcome
+edges-hold = refl
+
+pub nothing-between : NothingBetween
+unfolding keylessBounds cmpKey cmpNumber
+nothing-between x = (keyless-pass-and-hold-none _ refl) .1 x

@@ -1,0 +1,82 @@
+-- The starred edges of document 01, as rows of one checked list: what a public call's definition answers, and what the
+-- paper says. Later sections add rows. Letters are ASCII.
+use Prim.Native.Nat.{ℕ}
+use mathlib.Core.Path.{_≡_, refl}
+use mathlib.Core.Bool.{Bool, true, false}
+use mathlib.Core.List.{List, [], _∷_, map}
+use lib.IntN.{ℤ, pos, negsuc}
+use Rattle.base.specs.Outcome.{Outcome}
+use Rattle.base.specs.Outcome as outcome
+use Rattle.key.specs.Order.{Key, cmpNumber, cmpKey}
+use Rattle.comparable_range.specs.Range.{Bound, unbounded, included, excluded, Range, cmpBound, boundsPass, startHolds, endHolds, holds}
+use Rattle.comparable_range.specs.Laws.{keylessBounds, keyless}
+use Rattle.format.specs.Number.{digits, readNumber, writeNumber}
+use Rattle.format.specs.Key.{readBytes, readKey, writeKey}
+use Rattle.format.specs.Range.{headOf, readBound, writeBound, readRange, writeRange}
+use Rattle.format.specs.Whole.{whole, keyGiven}
+use Rattle.bytes_range.specs.Prefix.{keptOf, raised, nextPrefix, fromPrefix}
+use Rattle.bilqarush.specs.Calls.{rangeGiven, boundGiven, cmpBoundOutcome, nonEmptyOutcome, containsOutcome, fromPrefixOutcome}
+
+-- the answers of all calls in one type
+pub data Answer : Type 0 where
+  stop : ℕ → Answer
+  is : Bool → Answer
+  order : ℤ → Answer
+  bytes : List ℕ → Answer
+
+abbrev test : Outcome Bool → Answer
+test (outcome.stop n) = stop n
+test (outcome.answer t) = is t
+
+abbrev comparison : Outcome ℤ → Answer
+comparison (outcome.stop n) = stop n
+comparison (outcome.answer z) = order z
+
+abbrev writing : Outcome (List ℕ) → Answer
+writing (outcome.stop n) = stop n
+writing (outcome.answer b) = bytes b
+
+pub record Edge : Type 0 where
+  pub answered : Answer
+  pub expected : Answer
+
+infix 40 _∶_
+abbrev _∶_ : Answer → Answer → Edge
+a ∶ b = record { answered = a; expected = b }
+
+-- ---- the inputs
+abbrev a : Key
+a = 97 ∷ []
+
+abbrev a00 : Key
+a00 = 97 ∷ 0 ∷ []
+
+abbrev range : Bound → Bound → Range
+range s e = record { start = s; end = e }
+
+abbrev image : Bound → Bound → List ℕ
+image s e = writeRange (range s e)
+
+-- ---- the rows
+unfoldable pub edges : List Edge
+edges =
+    -- [a,a) empty; [a,a] holds a; (a, a00) passes, holds nothing
+    (test (nonEmptyOutcome (image (included a) (excluded a))) ∶ is false)
+    ∷ (test (nonEmptyOutcome (image (included a) (included a))) ∶ is true)
+    ∷ (test (containsOutcome (image (included a) (included a)) a) ∶ is true)
+    ∷ (test (nonEmptyOutcome (image (excluded a) (excluded a00))) ∶ is true)
+    ∷ (is (keyless (range (excluded a) (excluded a00))) ∶ is true)
+    -- starts [a, (a: -1; the same two as ends: 1
+    ∷ (comparison (cmpBoundOutcome 1 a 2 a true) ∶ order (negsuc 0))
+    ∷ (comparison (cmpBoundOutcome 1 a 2 a false) ∶ order (pos 1))
+    -- prefix 61 FF ends before 62; FF FF is unbounded
+    ∷ (writing (fromPrefixOutcome (97 ∷ 255 ∷ []) 8) ∶ bytes (image (included (97 ∷ 255 ∷ [])) (excluded (98 ∷ []))))
+    ∷ (writing (fromPrefixOutcome (255 ∷ 255 ∷ []) 5) ∶ bytes (image (included (255 ∷ 255 ∷ [])) unbounded))
+    ∷ []
+
+abbrev pub EdgesHold : Type 0
+EdgesHold = map (λ e. e .answered) edges ≡ map (λ e. e .expected) edges
+
+-- (a, a00) holds nothing, whatever the key
+abbrev pub NothingBetween : Type 0
+NothingBetween = (x : Key) → holds (range (excluded a) (excluded a00)) x ≡ false

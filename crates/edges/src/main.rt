@@ -1,0 +1,123 @@
+// Runs document 01's edges through the public calls and writes what they answer. The starred ones are also proved, as
+// rows of one list, in specs/Edges.antt.
+use base::Written;
+use bilqarush::Compared;
+use bilqarush::Tested;
+
+fn print_stop(n: u8) {
+    io::write_all(1, b": stop ");
+    io::print_decimal(1, n as u64);
+    io::write_all(1, b"\n");
+}
+
+fn print_test(name: &[u8], t: Tested) {
+    io::write_all(1, name);
+    match t {
+        Tested::Stop(n) => print_stop(n),
+        Tested::Is(yes) => {
+            if yes {
+                io::write_all(1, b": yes\n");
+            } else {
+                io::write_all(1, b": no\n");
+            }
+        }
+    }
+}
+
+fn print_order(name: &[u8], c: Compared) {
+    io::write_all(1, name);
+    match c {
+        Compared::Stop(n) => print_stop(n),
+        Compared::Order(z) => {
+            if z < 0 {
+                io::write_all(1, b": -1\n");
+            } else {
+                if z == 0 {
+                    io::write_all(1, b": 0\n");
+                } else {
+                    io::write_all(1, b": 1\n");
+                }
+            }
+        }
+    }
+}
+
+fn print_bytes(b: &[u8]) {
+    let mut i = 0;
+    while i < b.len() {
+        io::print_hex(1, wide(b[i]), 2);
+        i += 1;
+    }
+}
+
+fn wide(x: u8) -> u64 {
+    x as u64
+}
+
+// A range image that was written, in hexadecimal.
+fn print_range(name: &[u8], out: &[u8], w: Written) {
+    io::write_all(1, name);
+    match w {
+        Written::Stop(n) => print_stop(n),
+        Written::Wrote(n) => {
+            io::write_all(1, b": ");
+            if n <= out.len() {
+                print_bytes(&out[..n]);
+            }
+            io::write_all(1, b"\n");
+        }
+    }
+}
+
+fn ranges() {
+    print_test(
+        b"[a,a) passes",
+        bilqarush::non_empty(b"\x60\x00\x01a\x00\x01a"),
+    );
+    print_test(
+        b"[a,a] passes",
+        bilqarush::non_empty(b"\x50\x00\x01a\x00\x01a"),
+    );
+    print_test(
+        b"[a,a] holds a",
+        bilqarush::contains(b"\x50\x00\x01a\x00\x01a", b"a"),
+    );
+    print_test(
+        b"(a,a00) passes",
+        bilqarush::non_empty(b"\xa0\x00\x01a\x00\x02a\x00"),
+    );
+    print_test(
+        b"(a,a00) holds a",
+        bilqarush::contains(b"\xa0\x00\x01a\x00\x02a\x00", b"a"),
+    );
+    print_test(
+        b"(a,a00) holds a00",
+        bilqarush::contains(b"\xa0\x00\x01a\x00\x02a\x00", b"a\x00"),
+    );
+}
+
+fn bounds() {
+    print_order(
+        b"starts [a, (a",
+        bilqarush::cmp_bound(1, b"a", 2, b"a", true),
+    );
+    print_order(
+        b"ends a], a)",
+        bilqarush::cmp_bound(1, b"a", 2, b"a", false),
+    );
+}
+
+fn prefixes() {
+    let mut out = [0u8; 16];
+    let w = bilqarush::from_prefix(b"\x61\xff", &mut out);
+    print_range(b"prefix 61ff", &out, w);
+    let mut next = [0u8; 16];
+    let v = bilqarush::from_prefix(b"\xff\xff", &mut next);
+    print_range(b"prefix ffff", &next, v);
+}
+
+fn main() {
+    ranges();
+    bounds();
+    prefixes();
+}
