@@ -33,7 +33,9 @@ fn main() {
     println!("cargo:rerun-if-changed=build.rs");
     let here = PathBuf::from(env::var("CARGO_MANIFEST_DIR").unwrap());
     let out = PathBuf::from(env::var("OUT_DIR").unwrap());
-    let from = PathBuf::from(env::var("SLATEDB_SRC").unwrap_or(concat!(env!("CARGO_MANIFEST_DIR"), "/../../shared/docs/src").into()));
+    let from = PathBuf::from(
+        env::var("SLATEDB_SRC").expect("SLATEDB_SRC names the folder with the originals"),
+    );
     let tree = out.join("slatedb");
     fs::create_dir_all(tree.join("manifest")).unwrap();
 

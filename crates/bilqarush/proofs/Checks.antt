@@ -1,20 +1,18 @@
 -- The exits of the calls on keys, bounds and single ranges: the checks passed so far decide the outcome.
 -- Assumes nothing.
-use Prim.Native.Nat.{ℕ, zero, suc, _+_, _<_, _≤_}
+use Prim.Native.Nat.{ℕ, zero, suc, _<_, _≤_}
 use native.Mathlib.Omega.{arith}
-use mathlib.Core.Path.{_≡_, refl, sym, _∙_, ap}
+use mathlib.Core.Path.{_≡_, refl, sym, _∙_}
 use mathlib.Core.Bool.{Bool, true, false}
-use mathlib.Core.Option.{Option, none, some}
 use mathlib.Core.List.{List, [], _∷_}
 use lib.IntN.{ℤ}
 use lib.ListN.{length, take, drop}
-use lib.Dec.{leb}
 use borrow.Author.Tests.{le-leb, lt-leb}
-use Rattle.base.specs.Outcome.{Outcome, stop, answer}
+use Rattle.base.specs.Outcome.{stop, answer}
 use Rattle.base.specs.Table.{NoneOf}
-use Rattle.key.specs.Order.{Key, cmpKey, sign}
+use Rattle.key.specs.Order.{cmpKey, sign}
 use Rattle.key.specs.declared.Order.{Order}
-use Rattle.comparable_range.specs.Range.{Bound, unbounded, boundOf, Range, cmpBound, nonEmpty, holds}
+use Rattle.comparable_range.specs.Range.{unbounded, boundOf, cmpBound, nonEmpty, holds}
 use Rattle.comparable_range.specs.declared.Kind.{Kind}
 use Rattle.comparable_range.specs.declared.Kind.the-variants.{Unbounded, Included, Excluded}
 use Rattle.format.specs.Range.{readRange, rangeIn, BoundInside, RangeWhole}
@@ -25,7 +23,7 @@ use Rattle.format.specs.declared.range.RangeRead.the-variants.{At as RangeAt, S
 use Rattle.bytes_range.specs.Prefix.{asPoint}
 use Rattle.bytes_range.specs.Writing.{pointIf}
 use Rattle.bilqarush.specs.Calls.{rangeGiven, nothingLeft, boundGiven, compareOutcome, cmpBoundOutcome, nonEmptyOutcome, containsOutcome, asPointOutcome}
-use Rattle.bilqarush.specs.Answers.{givenOf, orderOf, testOf, pointOf, PointFound}
+use Rattle.bilqarush.specs.Answers.{givenOf, orderOf, testOf, PointFound}
 use Rattle.bilqarush.specs.declared.Given.{Given}
 use Rattle.bilqarush.specs.declared.Given.the-variants.{Bound as GivenBound, Stop as GivenStop}
 use Rattle.bilqarush.specs.declared.Compared.the-variants.{Order as Ordered, Stop as ComparedStop}

@@ -1,14 +1,14 @@
 -- The exits of the calls on two ranges.
 -- Assumes nothing.
 use Prim.Native.Nat.{ℕ}
-use mathlib.Core.Path.{_≡_, refl, sym, _∙_, ap}
+use mathlib.Core.Path.{_≡_, refl, sym, _∙_}
 use mathlib.Core.Bool.{Bool, true, false}
-use mathlib.Core.Option.{Option, none, some}
-use mathlib.Core.List.{List, []}
+use mathlib.Core.Option.{Option}
+use mathlib.Core.List.{List}
 use lib.ListN.{take}
 use Rattle.base.specs.Outcome.{Outcome, stop, answer}
 use Rattle.key.specs.Order.{Key}
-use Rattle.comparable_range.specs.Range.{Range, nonEmpty, of, intersectSides, unionSides}
+use Rattle.comparable_range.specs.Range.{nonEmpty, of, intersectSides, unionSides}
 use Rattle.comparable_range.specs.declared.Side.{Side}
 use Rattle.comparable_range.specs.declared.Side.the-variants.{First, Second}
 use Rattle.comparable_range.specs.declared.Sides.{Sides}
@@ -20,7 +20,7 @@ use Rattle.format.specs.declared.range.RangeRead.the-variants.{At as RangeAt, S
 use Rattle.bytes_range.specs.Writing.{SuppliedInside, suppliedBound, boundKey}
 use Rattle.bytes_range.specs.declared.span.Supplied.{Supplied}
 use Rattle.bilqarush.specs.Calls.{Pair, rangesGiven, Joint, joint, intersectOutcome, unionOutcome}
-use Rattle.bilqarush.specs.Answers.{bothOf, BothFound, suppliedBy, joinedBy, supply, jointOf, JointInside, JointFound, startKeyOf, endKeyOf}
+use Rattle.bilqarush.specs.Answers.{BothFound, suppliedBy, joinedBy, jointOf, JointInside, JointFound, startKeyOf, endKeyOf}
 use Rattle.bilqarush.specs.declared.Both.{Both}
 use Rattle.bilqarush.specs.declared.Both.the-variants.{Ranges, Stop as BothStop}
 use Rattle.bilqarush.specs.declared.Joined.{Joined}

@@ -3,19 +3,19 @@
 use Prim.Native.Nat.{ℕ, _<_, _≤_}
 use mathlib.Core.Path.{_≡_, refl, sym, _∙_, ap}
 use mathlib.Core.Bool.{true}
-use mathlib.Core.List.{List, []}
-use lib.ListN.{length, take}
-use Rattle.base.specs.Outcome.{Outcome, stop, answer, reported, lent, writtenTo}
+use mathlib.Core.List.{List}
+use lib.ListN.{length}
+use Rattle.base.specs.Outcome.{reported, lent, writtenTo}
 use Rattle.base.specs.declared.Written.{Written}
-use Rattle.base.specs.declared.Written.the-variants.{Wrote, Stop}
+use Rattle.base.specs.declared.Written.the-variants.{Stop}
 use Rattle.key.specs.Order.{Key}
-use Rattle.comparable_range.specs.Range.{Range, boundOf, rangeOf}
+use Rattle.comparable_range.specs.Range.{boundOf, rangeOf}
 use Rattle.comparable_range.specs.declared.Kind.the-variants.{Unbounded}
 use Rattle.format.specs.Range.{rangeIn, writeRange, RangeWhole}
 use Rattle.format.specs.declared.range.BoundSpan.{BoundSpan}
 use Rattle.format.specs.declared.range.RangeRead.{RangeRead}
 use Rattle.format.specs.declared.range.RangeRead.the-variants.{At as RangeAt, Stop as RangeStop}
-use Rattle.bytes_range.specs.Prefix.{fromPrefix, fromPrefixAndSubrange}
+use Rattle.bytes_range.specs.Prefix.{fromPrefixAndSubrange}
 use Rattle.bytes_range.specs.Writing.{joinsWithin, joinedTo}
 use Rattle.bytes_range.proofs.Begins.{whole-subrange-is-from-prefix}
 use Rattle.bilqarush.specs.Calls.{fromPrefixOutcome, fromPrefixAndSubrangeOutcome}

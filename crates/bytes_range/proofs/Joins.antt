@@ -1,33 +1,28 @@
--- The exits of the functions on joined bounds: what each case of the code makes of a start or an end.
+-- What is kept of a prefix, and what each case of the code makes of a start or an end: its kind and its size.
 -- Assumes nothing.
-use Prim.Native.Nat.{ℕ, zero, suc, _+_, _-_, _*_, _^_, _<_, _≤_}
+use Prim.Native.Nat.{ℕ, zero, suc, _+_, _-_, _≤_}
 use native.Mathlib.Omega.{arith}
-use native.Mathlib.Numerals.{add-one}
-use native.Mathlib.Nat.{le-refl, add-zero}
+use native.Mathlib.Nat.{le-refl}
 use mathlib.Core.Path.{_≡_, refl, sym, _∙_, ap}
-use mathlib.Core.Bool.{Bool, true, false, _&&_}
-use mathlib.Core.Option.{Option, none, some}
-use mathlib.Core.List.{List, [], _∷_, _++_, append-nil}
-use lib.ListN.{length, getD, take, drop, length-append, length-take}
+use mathlib.Core.Bool.{Bool, true, false}
+use mathlib.Core.Option.{some}
+use mathlib.Core.List.{List, [], _∷_, _++_}
+use lib.ListN.{length, getD, take, length-append}
 use lib.Seq.{length-take-le}
-use lib.Dec.{T, eqb, leb}
+use lib.Dec.{eqb}
 use mir.Val.{Fits}
-use mir.Syntax.{w8, w64}
-use borrow.Author.Tests.{eq-eqb, ne-eqb, eqb-false, le-leb, lt-leb, leb-true, leb-false}
+use mir.Syntax.{w64}
+use borrow.Author.Tests.{eq-eqb, ne-eqb, eqb-false, leb-true}
 use Rattle.base.specs.Pick.{pick}
-use Rattle.base.specs.Splice.{splice, splice-none, spliced-length}
-use Rattle.key.specs.Order.{Key, cmpKey, isEqual}
-use Rattle.key.specs.declared.Order.{Order}
-use Rattle.comparable_range.specs.Range.{Bound, unbounded, included, excluded, Range, boundOf, rangeOf}
-use Rattle.comparable_range.specs.Factors.{isKeyed}
+use Rattle.key.specs.Order.{Key}
+use Rattle.comparable_range.specs.Range.{Bound, unbounded, included, excluded, boundOf}
 use Rattle.comparable_range.specs.declared.Kind.{Kind}
 use Rattle.comparable_range.specs.declared.Kind.the-variants.{Unbounded, Included, Excluded}
 use Rattle.format.specs.Key.{writeKey}
 use Rattle.format.specs.Range.{kindOfBound, writeBound}
 use Rattle.format.proofs.Layouts.{key-length}
-use Rattle.bytes_range.specs.Prefix.{keptOf, raised, nextPrefix, upTo, joinStart, joinEnd, fromPrefixAndSubrange, pointOf, asPoint}
-use Rattle.bytes_range.specs.Laws.{leavesNone, leavesNoneBounds}
-use Rattle.bytes_range.specs.Writing.{joinsWithin, pointIf}
+use Rattle.bytes_range.specs.Prefix.{keptOf, raised, nextPrefix, joinStart, joinEnd}
+use Rattle.bytes_range.specs.Writing.{joinsWithin}
 
 -- ---- kept: n is 0 or one more
 pub none-left : (p : List ℕ) {n : ℕ} → n ≡ 0 → 0 ≡ keptOf p n
@@ -51,7 +46,7 @@ kept-here p (suc m) h e =
 pub ruleset kept-exits = (none-left, dropped, kept-here)
 
 -- what is kept is within the prefix, and its last byte is not FF
-kept-le : (p : List ℕ) (n : ℕ) → keptOf p n ≤ n
+pub kept-le : (p : List ℕ) (n : ℕ) → keptOf p n ≤ n
 unfolding keptOf
 kept-le p zero = le-refl 0
 kept-le p (suc n) = by-test (eqb (getD p n 0) 255) (kept-le p n)
@@ -60,7 +55,7 @@ kept-le p (suc n) = by-test (eqb (getD p n 0) 255) (kept-le p n)
     by-test true k = omega arith
     by-test false k = le-refl (suc n)
 
-kept-last : (p : List ℕ) (n m : ℕ) → suc m ≡ keptOf p n → getD p m 0 ≡ 255 → ⊥
+pub kept-last : (p : List ℕ) (n m : ℕ) → suc m ≡ keptOf p n → getD p m 0 ≡ 255 → ⊥
 unfolding keptOf
 kept-last p zero m e q = omega arith
 kept-last p (suc n) m e q = by-test (eqb (getD p n 0) 255) refl e (λ r. kept-last p n m r q)
@@ -71,7 +66,7 @@ kept-last p (suc n) m e q = by-test (eqb (getD p n 0) 255) refl e (λ r. kept-la
 
 -- ---- the joined start, case by case
 module _ (p s : Key) {k : Kind} where
-  start-free : k ≡ Unbounded → length p ≡ 0 → joinStart p (boundOf k s) ≡ unbounded
+  pub start-free : k ≡ Unbounded → length p ≡ 0 → joinStart p (boundOf k s) ≡ unbounded
   unfolding joinStart
   start-free h e = rw h (go p e)
     where
@@ -79,7 +74,7 @@ module _ (p s : Key) {k : Kind} where
       go [] e = refl
       go (b ∷ p) e = absurd (omega arith)
 
-  start-bare : k ≡ Unbounded → (length p ≡ 0 → ⊥) → joinStart p (boundOf k s) ≡ included p
+  pub start-bare : k ≡ Unbounded → (length p ≡ 0 → ⊥) → joinStart p (boundOf k s) ≡ included p
   unfolding joinStart
   start-bare h e = rw h (go p e)
     where
@@ -87,7 +82,7 @@ module _ (p s : Key) {k : Kind} where
       go [] e = absurd (e refl)
       go (b ∷ p) e = refl
 
-  start-in : k ≡ Included → joinStart p (boundOf k s) ≡ included (p ++ s)
+  pub start-in : k ≡ Included → joinStart p (boundOf k s) ≡ included (p ++ s)
   unfolding joinStart
   start-in h = rw h (go p)
     where
@@ -95,7 +90,7 @@ module _ (p s : Key) {k : Kind} where
       go [] = refl
       go (b ∷ p) = refl
 
-  start-ex : k ≡ Excluded → joinStart p (boundOf k s) ≡ excluded (p ++ s)
+  pub start-ex : k ≡ Excluded → joinStart p (boundOf k s) ≡ excluded (p ++ s)
   unfolding joinStart
   start-ex h = rw h (go p)
     where
@@ -110,32 +105,32 @@ raised-is p zero h = absurd (h refl)
 raised-is p (suc m) h = let z : suc m - 1 ≡ m = omega arith in rw z
 
 module _ (p e : Key) {k : Kind} where
-  end-free : {n : ℕ} → k ≡ Unbounded → n ≡ keptOf p (length p) → n ≡ 0 → joinEnd p (boundOf k e) ≡ unbounded
+  pub end-free : {n : ℕ} → k ≡ Unbounded → n ≡ keptOf p (length p) → n ≡ 0 → joinEnd p (boundOf k e) ≡ unbounded
   unfolding joinEnd nextPrefix raised
   end-free h q z = rw (h, ← q, z)
 
-  end-in : k ≡ Included → joinEnd p (boundOf k e) ≡ included (p ++ e)
+  pub end-in : k ≡ Included → joinEnd p (boundOf k e) ≡ included (p ++ e)
   unfolding joinEnd
   end-in h = rw h
 
-  end-ex : k ≡ Excluded → joinEnd p (boundOf k e) ≡ excluded (p ++ e)
+  pub end-ex : k ≡ Excluded → joinEnd p (boundOf k e) ≡ excluded (p ++ e)
   unfolding joinEnd
   end-ex h = rw h
 
-end-next : (p : Key) {n : ℕ} → n ≡ keptOf p (length p) → (n ≡ 0 → ⊥) → joinEnd p unbounded ≡ excluded (take (n - 1) p ++ ((getD p (n - 1) 0 + 1) ∷ []))
+pub end-next : (p : Key) {n : ℕ} → n ≡ keptOf p (length p) → (n ≡ 0 → ⊥) → joinEnd p unbounded ≡ excluded (take (n - 1) p ++ ((getD p (n - 1) 0 + 1) ∷ []))
 unfolding joinEnd nextPrefix
 end-next p {n} q z = rw (← q, raised-is p n z)
 
 -- a bound without a key, or with one, as it is written
-written-none : (b : Bound) → b ≡ unbounded → writeBound b ≡ []
+pub written-none : (b : Bound) → b ≡ unbounded → writeBound b ≡ []
 unfolding writeBound
 written-none b e = rw e
 
-written-in : (b : Bound) (k : Key) → b ≡ included k → writeBound b ≡ writeKey k
+pub written-in : (b : Bound) (k : Key) → b ≡ included k → writeBound b ≡ writeKey k
 unfolding writeBound
 written-in b k e = rw e
 
-written-ex : (b : Bound) (k : Key) → b ≡ excluded k → writeBound b ≡ writeKey k
+pub written-ex : (b : Bound) (k : Key) → b ≡ excluded k → writeBound b ≡ writeKey k
 unfolding writeBound
 written-ex b k e = rw e
 
@@ -240,193 +235,3 @@ module _ (p s : Key) {k : Kind} where
   within-ex h w = joined-ex h w
 
 pub ruleset fit-exits = (fits-in, fits-ex, small-in, small-ex, kept-small, within-in, within-ex)
-
--- ---- put_start, put_end: a key is put where the bound is that key, and nothing where it has none
-module _ (p s : Key) {k : Kind} where
-  pub bare-written : k ≡ Unbounded → (length p ≡ 0 → ⊥) → writeKey (p ++ take 0 p) ≡ writeBound (joinStart p (boundOf k s))
-  bare-written h e = ap writeKey (append-nil p) ∙ sym (written-in _ p (start-bare p s h e))
-
-  pub in-written : k ≡ Included → writeKey (p ++ s) ≡ writeBound (joinStart p (boundOf k s))
-  in-written h = sym (written-in _ (p ++ s) (start-in p s h))
-
-  pub ex-written : k ≡ Excluded → writeKey (p ++ s) ≡ writeBound (joinStart p (boundOf k s))
-  ex-written h = sym (written-ex _ (p ++ s) (start-ex p s h))
-
-  pub end-in-written : k ≡ Included → writeKey (p ++ s) ≡ writeBound (joinEnd p (boundOf k s))
-  end-in-written h = sym (written-in _ (p ++ s) (end-in p s h))
-
-  pub end-ex-written : k ≡ Excluded → writeKey (p ++ s) ≡ writeBound (joinEnd p (boundOf k s))
-  end-ex-written h = sym (written-ex _ (p ++ s) (end-ex p s h))
-
-pub bare-within : (p : Key) → length p ≤ 1024 → length p + length (take 0 p) ≤ 1024
-bare-within p h = omega arith
-
-pub room-for : (b : Bound) (k : Key) (at n : ℕ) → writeKey k ≡ writeBound b → at + length (writeBound b) ≤ n → at + length (writeKey k) ≤ n
-room-for b k at n e h = rw e h
-
-pub place-past : (b : Bound) (k : Key) (at : ℕ) {r : ℕ} → r ≡ at + length (writeKey k) → writeKey k ≡ writeBound b → r ≡ at + length (writeBound b)
-place-past b k at h e = h ∙ rw e
-
-pub bound-put : (b : Bound) (k : Key) (d : List ℕ) (at : ℕ) {f : List ℕ} → f ≡ splice d at (writeKey k) → writeKey k ≡ writeBound b → f ≡ splice d at (writeBound b)
-bound-put b k d at h e = h ∙ ap (splice d at) e
-
-nothing-past : (at : ℕ) (b : Bound) → b ≡ unbounded → at ≡ at + length (writeBound b)
-nothing-past at b e = rw (written-none b e) (sym (add-zero at))
-
-nothing-put : (d : List ℕ) (at : ℕ) (b : Bound) → b ≡ unbounded → d ≡ splice d at (writeBound b)
-nothing-put d at b e = rw (written-none b e) (sym (splice-none d at))
-
-module _ (p s : Key) {k : Kind} (h : k ≡ Unbounded) where
-  pub free-past : (at : ℕ) → length p ≡ 0 → at ≡ at + length (writeBound (joinStart p (boundOf k s)))
-  free-past at e = nothing-past at _ (start-free p s h e)
-
-  pub free-put : (d : List ℕ) (at : ℕ) → length p ≡ 0 → d ≡ splice d at (writeBound (joinStart p (boundOf k s)))
-  free-put d at e = nothing-put d at _ (start-free p s h e)
-
-  pub end-free-past : (at : ℕ) {n : ℕ} → n ≡ keptOf p (length p) → n ≡ 0 → at ≡ at + length (writeBound (joinEnd p (boundOf k s)))
-  end-free-past at q e = nothing-past at _ (end-free p s h q e)
-
-  pub end-free-put : (d : List ℕ) (at : ℕ) {n : ℕ} → n ≡ keptOf p (length p) → n ≡ 0 → d ≡ splice d at (writeBound (joinEnd p (boundOf k s)))
-  end-free-put d at q e = nothing-put d at _ (end-free p s h q e)
-
-  pub next-room : (at n : ℕ) → at + length (writeBound (joinEnd p (boundOf k s))) ≤ n → at + length (writeBound (joinEnd p unbounded)) ≤ n
-  next-room at n l = rw h at l
-
-  pub next-past : (at : ℕ) {r : ℕ} → r ≡ at + length (writeBound (joinEnd p unbounded)) → r ≡ at + length (writeBound (joinEnd p (boundOf k s)))
-  next-past at l = rw h l
-
-  pub next-put : (d : List ℕ) (at : ℕ) {f : List ℕ} → f ≡ splice d at (writeBound (joinEnd p unbounded)) → f ≡ splice d at (writeBound (joinEnd p (boundOf k s)))
-  next-put d at l = rw h l
-
-pub ruleset put-exits = (bare-written, in-written, ex-written, end-in-written, end-ex-written, bare-within, room-for, place-past, bound-put, free-past, free-put, end-free-past, end-free-put, next-room, next-past, next-put, spliced-length)
-
--- ---- put_next
-module _ (p : Key) {n : ℕ} (q : n ≡ keptOf p (length p)) (z : n ≡ 0 → ⊥) where
-  pub last-in : n - 1 < length p
-  last-in = omega (arith, q, z, kept-le p (length p))
-
-  pub last-part : n - 1 ≤ length p
-  last-part = omega (arith, last-in)
-
-  pub front-length : n - 1 ≡ length (take (n - 1) p)
-  front-length = sym (length-take-le (n - 1) p last-part)
-
-  pub not-ff : getD p (n - 1) 0 ≡ 255 → ⊥
-  not-ff e = kept-last p (length p) (n - 1) (let m : suc (n - 1) ≡ n = omega (arith, z) in m ∙ q) e
-
-  pub next-written : {b : ℕ} → b ≡ getD p (n - 1) 0 + 1 → writeKey (take (n - 1) p ++ (b ∷ [])) ≡ writeBound (joinEnd p unbounded)
-  next-written e = rw e (sym (written-ex _ _ (end-next p q z)))
-
-  pub next-within : length p ≤ 1024 → length (take (n - 1) p) + 1 ≤ 1024
-  next-within l = rw (length-take-le (n - 1) p (omega (arith, last-in))) (omega (arith, last-in))
-
-pub ruleset next-exits = (last-in, last-part, front-length, not-ff, next-written, next-within, room-for, place-past, bound-put, spliced-length)
-
--- ---- joins_within, leaves_none, as_point
-module _ (p s : Key) (k : Kind) {t : Bool} (e : t ≡ isKeyed k) where
-  pub keyed-joins : length p ≤ 1024 → t ≡ true → leb (length s) (1024 - length p) ≡ joinsWithin p (boundOf k s)
-  unfolding joinsWithin
-  keyed-joins l h = go k (sym e ∙ h)
-    where
-      by-test : (b : Bool) → leb (length s) (1024 - length p) ≡ b → b ≡ leb (length p + length s) 1024
-      by-test true w = sym (le-leb (length p + length s) 1024 (omega (arith, leb-true (length s) (1024 - length p) w)))
-      by-test false w = sym (lt-leb (length p + length s) 1024 (omega (arith, leb-false (length s) (1024 - length p) w)))
-
-      same : leb (length s) (1024 - length p) ≡ leb (length p + length s) 1024
-      same = by-test (leb (length s) (1024 - length p)) refl
-
-      go : (k : Kind) → isKeyed k ≡ true → leb (length s) (1024 - length p) ≡ joinsWithin p (boundOf k s)
-      go Unbounded w = absurd (mathlib.Core.Bool.true≢false (sym w))
-      go Included w = same
-      go Excluded w = same
-
-  pub unkeyed-joins : t ≡ false → true ≡ joinsWithin p (boundOf k s)
-  unfolding joinsWithin
-  unkeyed-joins h = go k (sym e ∙ h)
-    where
-      go : (k : Kind) → isKeyed k ≡ false → true ≡ joinsWithin p (boundOf k s)
-      go Unbounded w = refl
-      go Included w = absurd (mathlib.Core.Bool.true≢false w)
-      go Excluded w = absurd (mathlib.Core.Bool.true≢false w)
-
-pub ruleset join-exits = (keyed-joins, unkeyed-joins)
-
--- neither is a prefix left with nothing
-module _ (p s e : Key) (j k : Kind) where
-  pub start-in-leaves : j ≡ Included → false ≡ leavesNone p (rangeOf j s k e)
-  unfolding leavesNoneBounds
-  start-in-leaves h = rw h (go p)
-    where
-      go : (p : Key) → false ≡ leavesNoneBounds p (included s) (boundOf k e)
-      go [] = refl
-      go (b ∷ p) = refl
-
-  pub start-ex-leaves : j ≡ Excluded → false ≡ leavesNone p (rangeOf j s k e)
-  unfolding leavesNoneBounds
-  start-ex-leaves h = rw h (go p)
-    where
-      go : (p : Key) → false ≡ leavesNoneBounds p (excluded s) (boundOf k e)
-      go [] = refl
-      go (b ∷ p) = refl
-
-  pub both-free-leaves : j ≡ Unbounded → k ≡ Unbounded → false ≡ leavesNone p (rangeOf j s k e)
-  unfolding leavesNoneBounds
-  both-free-leaves h l = rw (h, l) (go p)
-    where
-      go : (p : Key) → false ≡ leavesNoneBounds p unbounded unbounded
-      go [] = refl
-      go (b ∷ p) = refl
-
-  pub end-in-leaves : j ≡ Unbounded → k ≡ Included → false ≡ leavesNone p (rangeOf j s k e)
-  unfolding leavesNoneBounds
-  end-in-leaves h l = rw (h, l) (go p)
-    where
-      go : (p : Key) → false ≡ leavesNoneBounds p unbounded (included e)
-      go [] = refl
-      go (b ∷ p) = refl
-
-  pub no-prefix-leaves : length p ≡ 0 → false ≡ leavesNone p (rangeOf j s k e)
-  unfolding leavesNoneBounds
-  no-prefix-leaves h = go p h
-    where
-      go : (p : Key) → length p ≡ 0 → false ≡ leavesNoneBounds p (boundOf j s) (boundOf k e)
-      go [] h = refl
-      go (b ∷ p) h = absurd (omega arith)
-
-  pub end-ex-leaves : j ≡ Unbounded → k ≡ Excluded → (length p ≡ 0 → ⊥) → eqb (length e) 0 ≡ leavesNone p (rangeOf j s k e)
-  unfolding leavesNoneBounds
-  end-ex-leaves h l n = rw (h, l) (go p e n)
-    where
-      go : (p e : Key) → (length p ≡ 0 → ⊥) → eqb (length e) 0 ≡ leavesNoneBounds p unbounded (excluded e)
-      go [] e n = absurd (n refl)
-      go (b ∷ p) [] n = refl
-      go (b ∷ p) (c ∷ e) n = ne-eqb (length (c ∷ e)) 0 (λ z. omega arith)
-
-pub ruleset leave-exits = (start-in-leaves, start-ex-leaves, both-free-leaves, end-in-leaves, no-prefix-leaves, end-ex-leaves)
-
-module _ (s e : Key) (j k : Kind) where
-  pub free-no-point : j ≡ Unbounded → none ≡ asPoint (rangeOf j s k e)
-  unfolding pointOf
-  free-no-point h = rw h
-
-  pub ex-no-point : j ≡ Excluded → none ≡ asPoint (rangeOf j s k e)
-  unfolding pointOf
-  ex-no-point h = rw h
-
-  pub end-free-no-point : j ≡ Included → k ≡ Unbounded → none ≡ asPoint (rangeOf j s k e)
-  unfolding pointOf
-  end-free-no-point h l = rw (h, l)
-
-  pub end-ex-no-point : j ≡ Included → k ≡ Excluded → none ≡ asPoint (rangeOf j s k e)
-  unfolding pointOf
-  end-ex-no-point h l = rw (h, l)
-
-  pub point-if-equal : {o : Order} {r : Bool} → j ≡ Included → k ≡ Included → o ≡ cmpKey s e → r ≡ isEqual o → pointIf r s ≡ asPoint (rangeOf j s k e)
-  unfolding pointOf
-  point-if-equal {o} h l c q = rw (h, l, ← c, q) (go (isEqual o))
-    where
-      go : (b : Bool) → pointIf b s ≡ pick b (some s) none
-      go true = refl
-      go false = refl
-
-pub ruleset point-exits = (free-no-point, ex-no-point, end-free-no-point, end-ex-no-point, point-if-equal)

@@ -1,17 +1,15 @@
 -- The range of a prefix and a subrange is put piece by piece: its head, its start, its end.
 -- Assumes nothing.
-use Prim.Native.Nat.{ℕ, _+_, _^_, _<_, _≤_}
+use Prim.Native.Nat.{ℕ, _+_, _<_, _≤_}
 use native.Mathlib.Omega.{arith}
 use native.Mathlib.Nat.{zero-add}
-use mathlib.Core.Path.{_≡_, refl, sym, _∙_, ap}
+use mathlib.Core.Path.{_≡_, refl, _∙_, ap}
 use mathlib.Core.List.{List, [], _∷_, _++_}
 use lib.ListN.{length, length-append}
-use mir.Val.{Fits}
-use mir.Syntax.{w64}
-use Rattle.base.specs.Splice.{splice, length-splice, spliced-length, splice-splice}
+use Rattle.base.specs.Splice.{splice, spliced-length, splice-splice}
 use Rattle.base.specs.Outcome.{over}
 use Rattle.key.specs.Order.{Key}
-use Rattle.comparable_range.specs.Range.{Bound, Range, boundOf, rangeOf}
+use Rattle.comparable_range.specs.Range.{Range, boundOf, rangeOf}
 use Rattle.comparable_range.specs.declared.Kind.{Kind}
 use Rattle.format.specs.Range.{kindOfBound, headByte, writeBound, writeRange}
 use Rattle.bytes_range.specs.Prefix.{joinStart, joinEnd, fromPrefixAndSubrange}

@@ -10,10 +10,9 @@ use Rattle.comparable_range.specs.Range.{Range, boundOf, rangeOf, of, nonEmpty,
 use Rattle.comparable_range.specs.Factors.{isKeyed}
 use Rattle.comparable_range.specs.declared.Kind.{Kind}
 use Rattle.comparable_range.specs.declared.Kind.the-variants.{Unbounded, Included, Excluded}
-use Rattle.base.specs.Outcome.{Outcome, stop, reported, lent, writtenTo}
+use Rattle.base.specs.Outcome.{stop, reported, lent, writtenTo}
 use Rattle.base.specs.declared.Written.{Written}
-use Rattle.base.specs.declared.Written.the-variants.{Wrote, Stop}
-use Rattle.comparable_range.specs.declared.Side.{Side}
+use Rattle.base.specs.declared.Written.the-variants.{Stop}
 use Rattle.comparable_range.specs.declared.Side.the-variants.{First, Second}
 use Rattle.comparable_range.specs.declared.Sides.{Sides}
 use Rattle.format.specs.Range.{rangeIn, BoundInside, writeRange}

@@ -1,7 +1,7 @@
 -- Ranges from prefixes, and ranges that are one point, as bytes_range.rs has them.
 use Prim.Native.Nat.{ℕ, zero, suc, _+_}
 use mathlib.Core.Option.{Option, none, some}
-use mathlib.Core.List.{List, [], _∷_, _++_}
+use mathlib.Core.List.{[], _∷_, _++_}
 use lib.ListN.{length, getD, take}
 use lib.Dec.{eqb}
 use Rattle.base.specs.Pick.{pick}

@@ -1,13 +1,12 @@
 -- The functions on bounds, as the code factors them, are the definitions by cases on the bounds.
 -- Assumes nothing.
-use mathlib.Core.Path.{_≡_, refl, sym, _∙_}
-use mathlib.Core.Bool.{Bool, true, false, _&&_, _||_}
-use Rattle.base.specs.Pick.{pick}
+use mathlib.Core.Path.{_≡_, refl, _∙_}
+use mathlib.Core.Bool.{Bool, true, false}
 use Rattle.key.specs.Order.{Key, cmpKey, orElse, atMost, isLess, isEqual}
 use Rattle.key.specs.declared.Order.{Order}
 use Rattle.key.specs.declared.Order.the-variants.{Less, Equal, Greater}
 use Rattle.key.proofs.Linear.{orElse-end}
-use Rattle.comparable_range.specs.Range.{Bound, Range, boundOf, rangeOf, supplied, of, cmpBound, boundsPass, nonEmpty, startHolds, endHolds, holds, startSide, endSide, greaterEndSide, overlap, intersectSides, meets, areAdjacent, uniteSides, unionSides, exchanged, cmpRange}
+use Rattle.comparable_range.specs.Range.{Range, boundOf, rangeOf, supplied, of, cmpBound, boundsPass, nonEmpty, startHolds, endHolds, holds, startSide, endSide, greaterEndSide, intersectSides, meets, areAdjacent, uniteSides, unionSides, exchanged, cmpRange}
 use Rattle.comparable_range.specs.Factors.{isKeyed, tie, keyOrder, passes}
 use Rattle.comparable_range.specs.declared.Kind.{Kind}
 use Rattle.comparable_range.specs.declared.Kind.the-variants.{Unbounded, Included, Excluded}

@@ -1,5 +1,4 @@
 -- Bounds and ranges of keys, as comparable_range.rs has them.
-use Prim.Native.Nat.{ℕ}
 use mathlib.Core.Bool.{Bool, true, false, _&&_, _||_}
 use mathlib.Core.Option.{Option, none, some}
 use Rattle.base.specs.Pick.{pick}

@@ -1,9 +1,8 @@
 -- The rows hold by computing both sides.
 -- Assumes nothing.
-use mathlib.Core.Path.{_≡_, refl}
-use mathlib.Core.List.{map}
+use mathlib.Core.Path.{refl}
 use Rattle.key.specs.Order.{cmpNumber, cmpKey}
-use Rattle.comparable_range.specs.Range.{excluded, cmpBound, boundsPass, startHolds, endHolds, holds}
+use Rattle.comparable_range.specs.Range.{cmpBound, boundsPass, startHolds, endHolds, holds}
 use Rattle.comparable_range.specs.Laws.{keylessBounds}
 use Rattle.comparable_range.proofs.Keyless.{keyless-pass-and-hold-none}
 use Rattle.format.specs.Number.{digits, readNumber, writeNumber}

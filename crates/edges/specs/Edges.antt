@@ -1,21 +1,17 @@
 -- The starred edges of document 01, as rows of one checked list: what a public call's definition answers, and what the
 -- paper says. Later sections add rows. Letters are ASCII.
 use Prim.Native.Nat.{ℕ}
-use mathlib.Core.Path.{_≡_, refl}
+use mathlib.Core.Path.{_≡_}
 use mathlib.Core.Bool.{Bool, true, false}
 use mathlib.Core.List.{List, [], _∷_, map}
 use lib.IntN.{ℤ, pos, negsuc}
 use Rattle.base.specs.Outcome.{Outcome}
 use Rattle.base.specs.Outcome as outcome
-use Rattle.key.specs.Order.{Key, cmpNumber, cmpKey}
-use Rattle.comparable_range.specs.Range.{Bound, unbounded, included, excluded, Range, cmpBound, boundsPass, startHolds, endHolds, holds}
-use Rattle.comparable_range.specs.Laws.{keylessBounds, keyless}
-use Rattle.format.specs.Number.{digits, readNumber, writeNumber}
-use Rattle.format.specs.Key.{readBytes, readKey, writeKey}
-use Rattle.format.specs.Range.{headOf, readBound, writeBound, readRange, writeRange}
-use Rattle.format.specs.Whole.{whole, keyGiven}
-use Rattle.bytes_range.specs.Prefix.{keptOf, raised, nextPrefix, fromPrefix}
-use Rattle.bilqarush.specs.Calls.{rangeGiven, boundGiven, cmpBoundOutcome, nonEmptyOutcome, containsOutcome, fromPrefixOutcome}
+use Rattle.key.specs.Order.{Key}
+use Rattle.comparable_range.specs.Range.{Bound, unbounded, included, excluded, Range, holds}
+use Rattle.comparable_range.specs.Laws.{keyless}
+use Rattle.format.specs.Range.{writeRange}
+use Rattle.bilqarush.specs.Calls.{cmpBoundOutcome, nonEmptyOutcome, containsOutcome, fromPrefixOutcome}
 
 -- the answers of all calls in one type
 pub data Answer : Type 0 where

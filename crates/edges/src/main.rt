@@ -116,8 +116,50 @@ fn prefixes() {
     print_range(b"prefix ffff", &next, v);
 }
 
+// Keys at the ceiling, and past it.
+fn keys() {
+    let longest = [97u8; 1024];
+    let longer = [97u8; 1025];
+    print_order(
+        b"two keys of 1024 bytes",
+        bilqarush::compare(&longest, &longest),
+    );
+    print_order(
+        b"keys of 1024 and 1025 bytes",
+        bilqarush::compare(&longest, &longer),
+    );
+}
+
+// Buffers at the ceiling, and past it: a buffer's length is checked before its fields.
+fn buffers() {
+    let largest = [0u8; 65536];
+    let larger = [0u8; 65537];
+    print_test(
+        b"a range image of 65536 bytes",
+        bilqarush::non_empty(&largest),
+    );
+    print_test(
+        b"a range image of 65537 bytes",
+        bilqarush::non_empty(&larger),
+    );
+    print_order(
+        b"unbounded with 65536 bytes",
+        bilqarush::cmp_bound(0, &largest, 0, b"", true),
+    );
+    print_order(
+        b"unbounded with 65537 bytes",
+        bilqarush::cmp_bound(0, &larger, 0, b"", true),
+    );
+    print_order(
+        b"kind 3 with 65537 bytes",
+        bilqarush::cmp_bound(3, &larger, 0, b"", true),
+    );
+}
+
 fn main() {
     ranges();
     bounds();
     prefixes();
+    keys();
+    buffers();
 }

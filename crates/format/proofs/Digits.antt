@@ -4,15 +4,14 @@ use Prim.Native.Nat.{ℕ, suc, _+_, _*_, _-_, _^_, _<_, _≤_}
 use native.Mathlib.Nat.{mul-le-mul-right, mul-le-mul-left, pow-succ', one-le-pow, pow-le-pow-right, sub-zero, le-antisymm, zero-add}
 use native.Mathlib.Numerals.{add-one}
 use native.Mathlib.Omega.{arith}
-use mathlib.Core.Path.{_≡_, refl, sym, _∙_, ap}
-use mathlib.Core.List.{List, [], _∷_}
+use mathlib.Core.Path.{_≡_, refl, sym, _∙_}
+use mathlib.Core.List.{List}
 use lib.ListN.{length, getD, take, drop, length-drop, drop-of-length-le}
-use lib.Seq.{take-all, slice, slice-cons, slice-empty, drop-drop, drop-nil}
+use lib.Seq.{take-all, slice, slice-cons, slice-empty, drop-drop}
 use lib.Dec.{lit<}
 use mir.Val.{Fits}
 use mir.Syntax.{w64}
 use borrow.Author.Tests.{le-leb, lt-leb}
-use Rattle.format.specs.Got.{Got, got, stop}
 use Rattle.format.specs.Number.{digits, readNumber, numberOf}
 use Rattle.format.specs.declared.Number.{Number}
 use Rattle.format.specs.declared.Number.the-variants.{Value, Short}

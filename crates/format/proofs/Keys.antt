@@ -2,7 +2,7 @@
 -- Assumes nothing.
 use Prim.Native.Nat.{ℕ, _+_, _-_, _^_, _<_, _≤_}
 use native.Mathlib.Omega.{arith}
-use mathlib.Core.Path.{_≡_, refl, sym, _∙_, ap}
+use mathlib.Core.Path.{_≡_, refl, sym}
 use mathlib.Core.List.{List}
 use mathlib.Core.Bool.{Bool, true, false}
 use lib.ListN.{length, take, drop, length-drop}
@@ -12,7 +12,7 @@ use mir.Val.{Fits}
 use mir.Syntax.{w64}
 use borrow.Author.Tests.{le-leb, lt-leb, leb-true}
 use Rattle.base.specs.Pick.{pick}
-use Rattle.format.specs.Got.{Got, got, stop}
+use Rattle.format.specs.Got.{got, stop}
 use Rattle.format.specs.Number.{readNumber, numberOf, digits}
 use Rattle.format.specs.Key.{readBytes, readKey, KeyFound}
 use Rattle.format.specs.declared.Number.{Number}

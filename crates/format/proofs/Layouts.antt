@@ -1,21 +1,21 @@
 -- Numbers of any width, and keys, are layouts: reading and writing invert each other.
 -- Assumes nothing.
 use Prim.Native.Nat.{ℕ, zero, suc, _+_, _*_, _/_, _%_, _^_, _≤_, _<_}
-use native.Mathlib.Nat.{pow-succ', div-add-mod', div-lt-iff-lt-mul}
+use native.Mathlib.Nat.{pow-succ'}
 use native.Mathlib.Omega.{arith}
 use mathlib.Core.Path.{_≡_, refl, sym, ap, _∙_}
 use mathlib.Core.Bool.{Bool, true, false}
 use mathlib.Core.List.{List, [], _∷_, _++_, append-assoc}
-use lib.ListN.{length, getD, take, drop, length-append, length-take, length-drop, take-append-drop}
-use lib.Seq.{take-suc, take-all, length-take-le, take-at, drop-at, take-append-seam, drop-append-seam}
+use lib.ListN.{length, getD, take, drop, length-append, take-append-drop}
+use lib.Seq.{take-suc, take-all, length-take-le, take-at, drop-at}
 use lib.Dec.{leb}
 use borrow.Author.Tests.{le-leb, leb-true}
 use Rattle.base.specs.Pick.{pick}
-use Rattle.base.specs.Bytes.{Bytes, bytes-take, bytes-drop}
+use Rattle.base.specs.Bytes.{Bytes, bytes-take}
 use Rattle.format.specs.Got.{Got, got, stop, andThen}
 use Rattle.format.specs.Number.{digits, readNumber, writeNumber}
 use Rattle.format.specs.Key.{readBytes, readKey, writeKey}
-use Rattle.format.specs.Laws.{Written, Layout, NumberLayout, KeyLayout, KeyWithin}
+use Rattle.format.specs.Laws.{Written, NumberLayout, KeyLayout, KeyWithin}
 
 -- what two readers in a row found each
 pub record Came {A B : Type 0} (g : Got A) (f : A → List ℕ → Got B) (b : B) (q : List ℕ) : Type 0 where

@@ -2,19 +2,19 @@
 -- Assumes nothing.
 use Prim.Native.Nat.{ℕ, _<_}
 use mathlib.Core.Path.{_≡_, refl, sym, ap, _∙_}
-use mathlib.Core.Bool.{Bool, true, false}
+use mathlib.Core.Bool.{Bool, true}
 use mathlib.Core.List.{List, [], _∷_, _++_, append-assoc}
 use native.Mathlib.Omega.{arith}
-use lib.Dec.{T, eqb, eqb→eq}
+use lib.Dec.{eqb, eqb→eq}
 use Rattle.base.specs.Bytes.{Bytes, bytes-tail, bytes-rest}
-use Rattle.base.specs.Table.{allBelow, below-all}
+use Rattle.base.specs.Table.{below-all}
 use Rattle.comparable_range.specs.Range.{Bound, unbounded, included, excluded, Range}
 use Rattle.comparable_range.specs.declared.Kind.{Kind}
 use Rattle.comparable_range.specs.declared.Kind.the-variants.{Unbounded, Included, Excluded}
-use Rattle.format.specs.Got.{Got, got, stop, andThen}
-use Rattle.format.specs.Key.{readKey, writeKey}
+use Rattle.format.specs.Got.{Got, got, andThen}
+use Rattle.format.specs.Key.{readKey}
 use Rattle.format.specs.Range.{headOf, headByte, kindOfBound, readBound, writeBound, headed, readRange, writeRange}
-use Rattle.format.specs.Laws.{Written, Layout, KeyWithin, BoundWithin, RangeWithin, RangeLayout}
+use Rattle.format.specs.Laws.{Written, BoundWithin, RangeWithin, RangeLayout}
 use Rattle.format.specs.declared.range.Head.{Head}
 use Rattle.format.specs.declared.range.Head.the-variants.{Kinds, Stop as HeadStop}
 use Rattle.format.proofs.Layouts.{came, key-layout}

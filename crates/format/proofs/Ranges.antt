@@ -1,7 +1,6 @@
 -- The exits of the readers of ranges.
 -- Assumes nothing.
-use Prim.Native.Nat.{ℕ, _+_, _-_, _^_, _≤_, _<_}
-use native.Mathlib.Omega.{arith}
+use Prim.Native.Nat.{ℕ, _+_, _-_, _≤_, _<_}
 use native.Mathlib.Nat.{add-zero, add-sub-cancel-left}
 use native.Mathlib.Numerals.{add-one}
 use mathlib.Core.Path.{_≡_, refl, sym, _∙_, ap}
@@ -16,10 +15,10 @@ use Rattle.comparable_range.specs.Range.{boundOf, nonEmpty, boundsPass}
 use Rattle.comparable_range.specs.Factors.{isKeyed}
 use Rattle.comparable_range.specs.declared.Kind.{Kind}
 use Rattle.comparable_range.specs.declared.Kind.the-variants.{Unbounded, Included, Excluded}
-use Rattle.format.specs.Got.{Got, got, stop, andThen}
-use Rattle.format.specs.Key.{readKey, keyOf, KeyFound}
-use Rattle.format.specs.Range.{headOf, headByte, readBound, BoundFound, headed, readRange, RangeFound, RangeWhole, BoundInside, rangeIn}
-use Rattle.format.specs.Whole.{whole, ended}
+use Rattle.format.specs.Got.{got, andThen}
+use Rattle.format.specs.Key.{readKey, KeyFound}
+use Rattle.format.specs.Range.{headOf, headByte, readBound, BoundFound, headed, readRange, RangeFound, RangeWhole, rangeIn}
+use Rattle.format.specs.Whole.{whole}
 use Rattle.format.specs.declared.KeyRead.{KeyRead}
 use Rattle.format.specs.declared.KeyRead.the-variants.{At as KeyAt, Stop as KeyStop}
 use Rattle.format.specs.declared.range.Head.{Head}

@@ -3,7 +3,6 @@ use Prim.Native.Nat.{ℕ}
 use mathlib.Core.List.{List, [], _∷_}
 use lib.ListN.{length}
 use lib.Dec.{leb}
-use Rattle.base.specs.Pick.{pick}
 use Rattle.base.specs.Outcome.{Outcome, answer, check}
 use Rattle.base.specs.Outcome as outcome
 use Rattle.key.specs.Order.{Key}

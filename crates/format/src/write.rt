@@ -1,7 +1,7 @@
 // Writing into a lent buffer at a place. The caller has measured: what is put fits.
 ghost use mathlib.Core.Path.{_≡_};
 ghost use mathlib.Core.List.{_++_, _∷_, []};
-ghost use Prim.Native.Nat.{_≤_, _<_, _+_, _^_};
+ghost use Prim.Native.Nat.{_≤_, _<_, _+_};
 ghost use lib.ListN.{length};
 ghost use Rattle.base.specs.Splice.{splice};
 ghost use Rattle.format.specs.Number.{writeNumber};

@@ -2,9 +2,9 @@
 -- Assumes nothing.
 use Prim.Native.Nat.{ℕ, zero, suc, _<_, compare·zero-suc, compare·suc-zero, compare·suc-suc}
 use native.Mathlib.Nat.{le-of-suc-le-suc, not-suc-le-zero}
-use mathlib.Core.Path.{_≡_, refl, sym, ap, _∙_}
-use mathlib.Core.Bool.{Bool, true, false, not}
-use mathlib.Core.List.{List, [], _∷_, _++_}
+use mathlib.Core.Path.{_≡_, refl, ap, _∙_}
+use mathlib.Core.Bool.{not}
+use mathlib.Core.List.{[], _∷_, _++_}
 use lib.IntN.{negℤ}
 use Rattle.key.specs.Order.{Key, swap, orElse, atMost, isLess, sign, cmpNumber, cmpKey, keyBelow, keyAtMost}
 use Rattle.key.specs.Laws.{Linear, KeyOrderIsTotal, ProperPrefixComesFirst}

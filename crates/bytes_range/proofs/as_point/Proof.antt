@@ -1,6 +1,6 @@
 -- `bytes_range::as_point` meets its contract.
 -- Assumes nothing.
-use Rattle.bytes_range.proofs.Joins.{point-exits}
+use Rattle.bytes_range.proofs.JoinTests.{point-exits}
 use borrow.Author.Needs.{needs}
 use Rattle.bytes_range.proofs.as_point.Statement.{statement}
 use Rattle.bytes_range.proofs.as_point.Tie as tie

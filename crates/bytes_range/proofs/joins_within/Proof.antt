@@ -1,6 +1,6 @@
 -- `bytes_range::joins_within` meets its contract.
 -- Assumes nothing.
-use Rattle.bytes_range.proofs.Joins.{join-exits}
+use Rattle.bytes_range.proofs.JoinTests.{join-exits}
 use borrow.Author.Needs.{needs}
 use Rattle.bytes_range.proofs.joins_within.Statement.{statement}
 use Rattle.bytes_range.proofs.joins_within.Tie as tie

@@ -1,6 +1,6 @@
 -- `bytes_range::leaves_none` meets its contract.
 -- Assumes nothing.
-use Rattle.bytes_range.proofs.Joins.{leave-exits}
+use Rattle.bytes_range.proofs.JoinTests.{leave-exits}
 use borrow.Author.Needs.{needs}
 use Rattle.bytes_range.proofs.leaves_none.Statement.{statement}
 use Rattle.bytes_range.proofs.leaves_none.Tie as tie

@@ -1,6 +1,6 @@
 -- `bytes_range::put_next` meets its contract.
 -- Assumes nothing.
-use Rattle.bytes_range.proofs.Joins.{next-exits}
+use Rattle.bytes_range.proofs.JoinPut.{next-exits}
 use borrow.Author.Needs.{needs}
 use Rattle.bytes_range.proofs.put_next.Statement.{statement}
 use Rattle.bytes_range.proofs.put_next.Tie as tie

@@ -1,0 +1,299 @@
+// The calls of bilqarush, each made with a record's arguments and held to its answer.
+use crate::answer;
+use crate::answer::Place;
+use base::Written;
+use bilqarush::Compared;
+use bilqarush::Joined;
+use bilqarush::Point;
+use bilqarush::Tested;
+use bytes_range::span::Supplied;
+use comparable_range::Kind;
+use comparable_range::Side;
+use format::BoundSpan;
+ghost use Prim.Native.Nat.{_≤_};
+
+// What a record's head has beside the lengths.
+pub struct Fields {
+    pub call: u8,
+    pub x: u8,
+    pub y: u8,
+    pub z: u8,
+    pub room: usize,
+}
+
+// A byte that says that a buffer's byte was not written.
+const UNWRITTEN: u8 = 165;
+
+// The order plus one. No other number is an order, and 255 is in no record.
+fn order_number(order: i8) -> u8 {
+    if order == 0 {
+        return 1;
+    }
+    if order == 1 {
+        return 2;
+    }
+    if order == -1 {
+        return 0;
+    }
+    255
+}
+
+fn compared_is(answer: &[u8], c: Compared) -> bool {
+    match c {
+        Compared::Stop(n) => answer::is_stop(answer, n),
+        Compared::Order(order) => answer::is_value(answer, order_number(order)),
+    }
+}
+
+fn tested_is(answer: &[u8], t: Tested) -> bool {
+    match t {
+        Tested::Stop(n) => answer::is_stop(answer, n),
+        Tested::Is(is) => answer::is_value(answer, is as u8),
+    }
+}
+
+fn point_is(answer: &[u8], range: &[u8], p: Point) -> bool {
+    match p {
+        Point::Stop(n) => answer::is_stop(answer, n),
+        Point::Nothing => answer::is_value(answer, 0),
+        Point::At(at, len) => {
+            let front = [0, 1];
+            let place = answer::bytes(answer, Place::At(0), &front);
+            answer::is_end(answer, answer::part(answer, place, range, at, len))
+        }
+    }
+}
+
+fn side_number(side: Side) -> u8 {
+    match side {
+        Side::First => 1,
+        Side::Second => 2,
+    }
+}
+
+fn kind_number(kind: Kind) -> u8
+    ensures { λ r. ⌜ r ≤ 2 ⌝ }
+{
+    match kind {
+        Kind::Unbounded => 0,
+        Kind::Included => 1,
+        Kind::Excluded => 2,
+    }
+}
+
+fn is_keyed(kind: Kind) -> bool {
+    match kind {
+        Kind::Unbounded => false,
+        Kind::Included => true,
+        Kind::Excluded => true,
+    }
+}
+
+fn supplied_side(x: Supplied) -> u8 {
+    let side = x.side;
+    side_number(side)
+}
+
+fn supplied_kind(x: Supplied) -> u8
+    ensures { λ r. ⌜ r ≤ 2 ⌝ }
+{
+    let bound = x.bound;
+    let kind = bound.kind;
+    kind_number(kind)
+}
+
+// The head byte of a range, by document 01 and not by what the library writes.
+fn head_number(start: Supplied, end: Supplied) -> u8 {
+    supplied_kind(start) * 64 + supplied_kind(end) * 16
+}
+
+// What an answered range has before its keys.
+fn range_front(answer: &[u8], start: Supplied, end: Supplied) -> Place {
+    let front = [
+        0,
+        1,
+        supplied_side(start),
+        supplied_side(end),
+        head_number(start, end),
+    ];
+    answer::bytes(answer, Place::At(0), &front)
+}
+
+fn bound_in(answer: &[u8], place: Place, s: &[u8], bound: BoundSpan) -> Place {
+    let kind = bound.kind;
+    if is_keyed(kind) {
+        return answer::key_image(answer, place, s, bound.at, bound.len);
+    }
+    place
+}
+
+fn bound_of(answer: &[u8], place: Place, a: &[u8], b: &[u8], x: Supplied) -> Place {
+    let side = x.side;
+    let bound = x.bound;
+    match side {
+        Side::First => bound_in(answer, place, a, bound),
+        Side::Second => bound_in(answer, place, b, bound),
+    }
+}
+
+fn range_is(answer: &[u8], a: &[u8], b: &[u8], start: Supplied, end: Supplied) -> bool {
+    let front = range_front(answer, start, end);
+    let place = bound_of(answer, front, a, b, start);
+    answer::is_end(answer, bound_of(answer, place, a, b, end))
+}
+
+fn joined_is(answer: &[u8], a: &[u8], b: &[u8], j: Joined) -> bool {
+    match j {
+        Joined::Stop(n) => answer::is_stop(answer, n),
+        Joined::Nothing => answer::is_value(answer, 0),
+        Joined::Range(start, end) => range_is(answer, a, b, start, end),
+    }
+}
+
+fn key_in(key: &[u8], s: &[u8], bound: BoundSpan) -> bool {
+    let kind = bound.kind;
+    if is_keyed(kind) {
+        return answer::is_end(key, answer::part(key, Place::At(0), s, bound.at, bound.len));
+    }
+    key.len() == 0
+}
+
+// Whether a key is that of a bound, or empty where the bound has none.
+fn key_is(key: &[u8], a: &[u8], b: &[u8], x: Supplied) -> bool {
+    let side = x.side;
+    let bound = x.bound;
+    match side {
+        Side::First => key_in(key, a, bound),
+        Side::Second => key_in(key, b, bound),
+    }
+}
+
+fn both_empty(start: &[u8], end: &[u8]) -> bool {
+    if start.len() == 0 {
+        return end.len() == 0;
+    }
+    false
+}
+
+// Whether the two keys of an intersection are those of the range that it answered.
+fn keys_are(start: &[u8], end: &[u8], a: &[u8], b: &[u8], j: Joined) -> bool {
+    match j {
+        Joined::Stop(_) => both_empty(start, end),
+        Joined::Nothing => both_empty(start, end),
+        Joined::Range(s, e) => {
+            if key_is(start, a, b, s) {
+                return key_is(end, a, b, e);
+            }
+            false
+        }
+    }
+}
+
+fn intersect<'a>(answer: &[u8], a: &'a [u8], b: &'a [u8]) -> bool {
+    let j = bilqarush::intersect(a, b);
+    let start = bilqarush::intersect_start_key(a, b);
+    let end = bilqarush::intersect_end_key(a, b);
+    if keys_are(start, end, a, b, j) {
+        return joined_is(answer, a, b, j);
+    }
+    false
+}
+
+fn fill(out: &mut [u8]) {
+    let mut i = 0;
+    while i < out.len() {
+        out[i] = UNWRITTEN;
+        i += 1;
+    }
+}
+
+fn is_unwritten(out: &[u8], from: usize) -> bool {
+    let mut i = from;
+    while i < out.len() {
+        if out[i] != UNWRITTEN {
+            return false;
+        }
+        i += 1;
+    }
+    true
+}
+
+// Whether a buffer holds the answer at its front and is unwritten past it.
+fn buffer_is(answer: &[u8], out: &[u8], length: usize) -> bool {
+    let front = [0];
+    let place = answer::bytes(answer, Place::At(0), &front);
+    if answer::is_end(answer, answer::part(answer, place, out, 0, length)) {
+        return is_unwritten(out, length);
+    }
+    false
+}
+
+fn written_is(answer: &[u8], out: &[u8], w: Written) -> bool {
+    match w {
+        Written::Wrote(n) => buffer_is(answer, out, n),
+        Written::Stop(n) => {
+            if is_unwritten(out, 0) {
+                return answer::is_stop(answer, n);
+            }
+            false
+        }
+    }
+}
+
+fn from_prefix(answer: &[u8], prefix: &[u8], out: &mut [u8]) -> bool {
+    fill(out);
+    let w = bilqarush::from_prefix(prefix, out);
+    written_is(answer, out, w)
+}
+
+fn from_prefix_and_subrange(answer: &[u8], prefix: &[u8], subrange: &[u8], out: &mut [u8]) -> bool {
+    fill(out);
+    let w = bilqarush::from_prefix_and_subrange(prefix, subrange, out);
+    written_is(answer, out, w)
+}
+
+// The calls that write, in a buffer of just the record's room.
+fn writing(answer: &[u8], f: Fields, a: &[u8], b: &[u8], out: &mut [u8]) -> bool {
+    let room = f.room;
+    if out.len() < room {
+        return false;
+    }
+    if f.call == 6 {
+        return from_prefix(answer, a, &mut out[..room]);
+    }
+    from_prefix_and_subrange(answer, a, b, &mut out[..room])
+}
+
+fn ordering(answer: &[u8], f: Fields, a: &[u8], b: &[u8]) -> bool {
+    if f.call == 1 {
+        return compared_is(answer, bilqarush::compare(a, b));
+    }
+    compared_is(answer, bilqarush::cmp_bound(f.x, a, f.y, b, f.z == 1))
+}
+
+fn testing(answer: &[u8], f: Fields, a: &[u8], b: &[u8]) -> bool {
+    if f.call == 3 {
+        return tested_is(answer, bilqarush::non_empty(a));
+    }
+    tested_is(answer, bilqarush::contains(a, b))
+}
+
+fn joining<'a>(answer: &[u8], f: Fields, a: &'a [u8], b: &'a [u8]) -> bool {
+    if f.call == 4 {
+        return intersect(answer, a, b);
+    }
+    joined_is(answer, a, b, bilqarush::union(a, b))
+}
+
+// Whether a record's call answers what it recorded. An unknown call never does.
+pub fn agrees<'a>(f: Fields, a: &'a [u8], b: &'a [u8], answer: &[u8], out: &mut [u8]) -> bool {
+    let call = f.call;
+    match call {
+        1 | 2 => ordering(answer, f, a, b),
+        3 | 9 => testing(answer, f, a, b),
+        4 | 5 => joining(answer, f, a, b),
+        6 | 7 => writing(answer, f, a, b, out),
+        8 => point_is(answer, a, bilqarush::as_point(a)),
+        0 | 10..=255 => false,
+    }
+}
