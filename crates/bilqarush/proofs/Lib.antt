@@ -1,3 +1,4 @@
 pub mod Checks
 pub mod Pairs
 pub mod Prefixes
+pub mod Answered

@@ -10,6 +10,7 @@ use Rattle.comparable_range.specs.Range.{Range, boundOf, rangeOf, of, nonEmpty,
 use Rattle.comparable_range.specs.Factors.{isKeyed}
 use Rattle.comparable_range.specs.declared.Kind.{Kind}
 use Rattle.comparable_range.specs.declared.Kind.the-variants.{Unbounded, Included, Excluded}
+use Rattle.base.specs.Pick.{and-first, and-second}
 use Rattle.base.specs.Outcome.{stop, reported, lent, writtenTo}
 use Rattle.base.specs.declared.Written.{Written}
 use Rattle.base.specs.declared.Written.the-variants.{Stop}
@@ -22,14 +23,6 @@ use Rattle.bytes_range.specs.Laws.{leavesNone}
 use Rattle.bytes_range.specs.Writing.{pointIf, SuppliedInside, suppliedBound, boundKey, joinsWithin, rangeJoins, joinedTo}
 use Rattle.bytes_range.proofs.PrefixLaws.{joined-passes-as-given}
 use Rattle.bytes_range.specs.declared.span.Supplied.{Supplied}
-
-and-first : (a b : Bool) → (a && b) ≡ true → a ≡ true
-and-first true b e = refl
-and-first false b e = e
-
-and-second : (a b : Bool) → (a && b) ≡ true → b ≡ true
-and-second true b e = e
-and-second false b e = absurd (mathlib.Core.Bool.true≢false (sym e))
 
 abbrev part : List ℕ → BoundSpan → Key
 part s b = take (b .len) (drop (b .at) s)

@@ -1,10 +1,8 @@
 -- Lengths: of a part that is lent, and of a buffer after a store. Assumes nothing.
-use Prim.Native.Nat.{ℕ, _-_, _+_, _≤_}
-use native.Mathlib.Nat.{add-sub-cancel-left}
-use native.Mathlib.Omega.{arith}
+use Prim.Native.Nat.{ℕ, _-_, _≤_}
 use mathlib.Core.Path.{_≡_, sym, _∙_}
 use mathlib.Core.List.{List}
-use lib.ListN.{length, take, drop, set, length-set, length-drop}
+use lib.ListN.{length, take, set, length-set}
 use lib.Seq.{length-take-le}
 
 pub front-length : (s : List ℕ) (n : ℕ) → n ≤ length s → n ≡ length (take n s)

@@ -4,7 +4,7 @@ mod answer;
 mod calls;
 
 use calls::Fields;
-ghost use Prim.Native.Nat.{_<_, _≤_};
+ghost use Prim.Native.Nat.{_<_};
 
 // The length of a record's head.
 const HEAD: usize = 12;
