@@ -5,7 +5,8 @@ use Rattle.key.specs.Order.{cmpNumber, cmpKey}
 use Rattle.comparable_range.specs.Range.{cmpBound, boundsPass, startHolds, endHolds, holds}
 use Rattle.comparable_range.specs.Laws.{keylessBounds}
 use Rattle.comparable_range.proofs.Keyless.{keyless-pass-and-hold-none}
-use Rattle.format.specs.Number.{digits, readNumber, writeNumber}
+use Rattle.key.specs.Word.{digits}
+use Rattle.format.specs.Number.{readNumber, writeNumber}
 use Rattle.format.specs.Key.{readBytes, readKey, writeKey}
 use Rattle.format.specs.Range.{headOf, readBound, writeBound, readRange, writeRange}
 use Rattle.format.specs.Whole.{whole, keyGiven}

@@ -12,7 +12,8 @@ use lib.Dec.{lit<}
 use mir.Val.{Fits}
 use mir.Syntax.{w64}
 use borrow.Author.Tests.{le-leb, lt-leb}
-use Rattle.format.specs.Number.{digits, readNumber, numberOf}
+use Rattle.key.specs.Word.{digits}
+use Rattle.format.specs.Number.{readNumber, numberOf}
 use Rattle.format.specs.declared.Number.{Number}
 use Rattle.format.specs.declared.Number.the-variants.{Value, Short}
 

@@ -13,7 +13,8 @@ use mir.Syntax.{w64}
 use borrow.Author.Tests.{le-leb, lt-leb, leb-true}
 use Rattle.base.specs.Pick.{pick}
 use Rattle.format.specs.Got.{got, stop}
-use Rattle.format.specs.Number.{readNumber, numberOf, digits}
+use Rattle.key.specs.Word.{digits}
+use Rattle.format.specs.Number.{readNumber, numberOf}
 use Rattle.format.specs.Key.{readBytes, readKey, KeyFound}
 use Rattle.format.specs.declared.Number.{Number}
 use Rattle.format.specs.declared.Number.the-variants.{Value, Short}

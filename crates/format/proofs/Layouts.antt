@@ -13,7 +13,8 @@ use borrow.Author.Tests.{le-leb, leb-true}
 use Rattle.base.specs.Pick.{pick}
 use Rattle.base.specs.Bytes.{Bytes, bytes-take}
 use Rattle.format.specs.Got.{Got, got, stop, andThen}
-use Rattle.format.specs.Number.{digits, readNumber, writeNumber}
+use Rattle.key.specs.Word.{digits}
+use Rattle.format.specs.Number.{readNumber, writeNumber}
 use Rattle.format.specs.Key.{readBytes, readKey, writeKey}
 use Rattle.format.specs.Laws.{Written, NumberLayout, KeyLayout, KeyWithin}
 

@@ -1,17 +1,13 @@
 -- A number of n bytes, most significant first.
-use Prim.Native.Nat.{ℕ, zero, suc, _+_, _*_, _/_, _%_}
+use Prim.Native.Nat.{ℕ, zero, suc, _+_, _/_, _%_}
 use mathlib.Core.List.{List, [], _∷_, _++_}
 use lib.ListN.{length, take, drop}
 use lib.Dec.{leb}
 use Rattle.base.specs.Pick.{pick}
+use Rattle.key.specs.Word.{digits}
 use Rattle.format.specs.Got.{Got, got, stop}
 use Rattle.format.specs.declared.Number.{Number}
 use Rattle.format.specs.declared.Number.the-variants.{Value, Short}
-
--- the number whose digits in base 256 are v's and then the list's
-unfoldable pub digits : ℕ → List ℕ → ℕ
-digits v [] = v
-digits v (b ∷ l) = digits (v * 256 + b) l
 
 unfoldable pub readNumber : ℕ → List ℕ → Got ℕ
 readNumber n l = pick (leb n (length l)) (got (digits 0 (take n l)) (drop n l)) (stop 1)

@@ -1,2 +1,4 @@
 pub mod Linear
 pub mod Passed
+pub mod Digits
+pub mod Words

@@ -1,4 +1,4 @@
--- What the loop of `cmp` keeps: both keys agree up to i, so the order is that of what is left.
+-- What the loop of `cmp_bytes` keeps: both keys agree up to i, so the order is that of what is left.
 -- Assumes nothing.
 use Prim.Native.Nat.{ℕ, _+_, _<_, _≤_}
 use native.Mathlib.Nat.{le-antisymm}

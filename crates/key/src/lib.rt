@@ -1,6 +1,8 @@
 // Byte keys and their order, as `Bytes: Ord` has it.
 ghost use mathlib.Core.Path.{_≡_};
-ghost use Rattle.key.specs.Order.{cmpKey, orElse, sign, isLess, isEqual, atMost};
+ghost use Prim.Native.Nat.{_+_, _<_, _≤_, min};
+ghost use Rattle.key.specs.Order.{cmpKey, cmpNumber, orElse, sign, isLess, isEqual, atMost};
+ghost use Rattle.key.specs.Word.{WordAt};
 
 pub enum Order {
     Less,
@@ -8,8 +10,42 @@ pub enum Order {
     Greater,
 }
 
-// The order of two keys: the first unequal byte decides, and a proper prefix comes first.
-pub fn cmp(a: &[u8], b: &[u8]) -> Order
+fn wide(x: u8) -> u64
+    ensures { λ r. ⌜ (r ≡ x) × (r < 256) ⌝ }
+{
+    x as u64
+}
+
+// The eight bytes from i as one number, most significant first. Written without a loop, so that the compiler makes one
+// load of it.
+fn word(a: &[u8], i: usize) -> u64
+    requires { do ⌜ i + 8 ≤ (← ⟦a.len()⟧) ⌝ }
+    ensures { λ r. ⌜ WordAt (now (a .entry)) i r ⌝ }
+{
+    let v1 = wide(a[i]);
+    let v2 = v1 * 256 + wide(a[i + 1]);
+    let v3 = v2 * 256 + wide(a[i + 2]);
+    let v4 = v3 * 256 + wide(a[i + 3]);
+    let v5 = v4 * 256 + wide(a[i + 4]);
+    let v6 = v5 * 256 + wide(a[i + 5]);
+    let v7 = v6 * 256 + wide(a[i + 6]);
+    v7 * 256 + wide(a[i + 7])
+}
+
+fn cmp_number(x: u64, y: u64) -> Order
+    ensures { λ r. ⌜ r ≡ cmpNumber x y ⌝ }
+{
+    if x < y {
+        return Order::Less;
+    }
+    if y < x {
+        return Order::Greater;
+    }
+    Order::Equal
+}
+
+// The order of two keys, a byte at a time: for a key with fewer than eight.
+fn cmp_bytes(a: &[u8], b: &[u8]) -> Order
     ensures { λ r. ⌜ r ≡ cmpKey (now (a .entry)) (now (b .entry)) ⌝ }
 {
     let mut i = 0;
@@ -30,6 +66,40 @@ pub fn cmp(a: &[u8], b: &[u8]) -> Order
     } else {
         Order::Equal
     }
+}
+
+// The length of the shorter key.
+fn shorter(a: &[u8], b: &[u8]) -> usize
+    ensures { λ r. do ⌜ r ≡ min (← ⟦a.len()⟧ .entry) (← ⟦b.len()⟧ .entry) ⌝ }
+{
+    if a.len() < b.len() { a.len() } else { b.len() }
+}
+
+// The order of two keys: the first unequal byte decides, and a proper prefix comes first.
+// Eight bytes at a time, since the order of equally many bytes is that of their numbers. The last eight of the shorter
+// key may overlap the ones before, which are equal, so that no bytes are left over.
+pub fn cmp(a: &[u8], b: &[u8]) -> Order
+    ensures { λ r. ⌜ r ≡ cmpKey (now (a .entry)) (now (b .entry)) ⌝ }
+{
+    let n = shorter(a, b);
+    if n < 8 {
+        return cmp_bytes(a, b);
+    }
+    let mut i = 0;
+    while i < n - 8 {
+        let x = word(a, i);
+        let y = word(b, i);
+        if x != y {
+            return cmp_number(x, y);
+        }
+        i += 8;
+    }
+    let x = word(a, n - 8);
+    let y = word(b, n - 8);
+    if x != y {
+        return cmp_number(x, y);
+    }
+    cmp_number(a.len() as u64, b.len() as u64)
 }
 
 // The first order decides unless it is equal.

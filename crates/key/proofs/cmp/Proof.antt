@@ -1,57 +1,67 @@
--- `key::cmp` meets its contract, by what its loop keeps.
+-- `key::cmp` meets its contract, by what its loop over eight bytes a turn keeps.
 -- Assumes nothing.
-use Rattle.key.proofs.Passed.{kept}
-use Rattle.key.proofs.Passed.{Passed}
+use Rattle.key.proofs.Words.{Agrees, kept}
 use Prim.Native.Nat.{_-_}
-use lib.ListN.{length}
 use borrow.Author.Needs.{needs}
 use Rattle.key.proofs.cmp.Statement.{statement}
 use Rattle.key.proofs.cmp.Tie as tie
 
 abbrev Inv-loop : tie.InvT-loop
-Inv-loop a b i₀ i = Passed a b i
+Inv-loop a b n i₀ i = Agrees a b i
 
 abbrev μ-loop : tie.MeasureT-loop
-μ-loop a b i₀ i = length a - i
+μ-loop a b n i₀ i = n - i
+
+shorter-requires : tie.Need-shorter-requires Inv-loop μ-loop
+shorter-requires c κs = search needs
+
+cmp-bytes-requires : tie.Need-cmp-bytes-requires Inv-loop μ-loop
+cmp-bytes-requires c κs = search needs
+
+returns : tie.Need-returns Inv-loop μ-loop
+returns c = search needs
 
 loop-holds : tie.Need-loop-holds Inv-loop μ-loop
 loop-holds c = search (needs, kept)
 
-returns : tie.Need-returns Inv-loop μ-loop
-returns c = search (needs, kept)
+word-requires : tie.Need-word-requires Inv-loop μ-loop
+word-requires c κs = search needs
 
-shared-slice-read-if2 : tie.Need-shared-slice-read-if2 Inv-loop μ-loop
-shared-slice-read-if2 c = search (needs, kept)
+word-requires-2 : tie.Need-word-requires-2 Inv-loop μ-loop
+word-requires-2 c κs = search needs
 
-shared-slice-read-if2-2 : tie.Need-shared-slice-read-if2-2 Inv-loop μ-loop
-shared-slice-read-if2-2 c = search (needs, kept)
+cmp-number-requires : tie.Need-cmp-number-requires Inv-loop μ-loop
+cmp-number-requires c κs = search needs
 
 returns-2 : tie.Need-returns-2 Inv-loop μ-loop
 returns-2 c = search (needs, kept)
 
-shared-slice-read-if3 : tie.Need-shared-slice-read-if3 Inv-loop μ-loop
-shared-slice-read-if3 c = search (needs, kept)
-
-shared-slice-read-if3-2 : tie.Need-shared-slice-read-if3-2 Inv-loop μ-loop
-shared-slice-read-if3-2 c = search (needs, kept)
-
-returns-3 : tie.Need-returns-3 Inv-loop μ-loop
-returns-3 c = search (needs, kept)
-
 add-i : tie.Need-add-i Inv-loop μ-loop
-add-i c = search (needs, kept)
+add-i c = search needs
 
 loop-less : tie.Need-loop-less Inv-loop μ-loop
-loop-less c = search (needs, kept)
+loop-less c = search needs
 
 loop-again : tie.Need-loop-again Inv-loop μ-loop
 loop-again c = search (needs, kept)
 
+word-requires-3 : tie.Need-word-requires-3 Inv-loop μ-loop
+word-requires-3 c κs = search needs
+
+word-requires-4 : tie.Need-word-requires-4 Inv-loop μ-loop
+word-requires-4 c κs = search needs
+
+cmp-number-requires-2 : tie.Need-cmp-number-requires-2 Inv-loop μ-loop
+cmp-number-requires-2 c κs = search needs
+
+returns-3 : tie.Need-returns-3 Inv-loop μ-loop
+returns-3 c = search (needs, kept)
+
+cmp-number-requires-3 : tie.Need-cmp-number-requires-3 Inv-loop μ-loop
+cmp-number-requires-3 c κs = search needs
+
 returns-4 : tie.Need-returns-4 Inv-loop μ-loop
 returns-4 c = search (needs, kept)
-
-returns-5 : tie.Need-returns-5 Inv-loop μ-loop
-returns-5 c = search (needs, kept)
 
 pub cmp-spec : {M : Type 1} → statement M
 cmp-spec =
@@ -59,16 +69,20 @@ cmp-spec =
     (tie.spec
     Inv-loop
     μ-loop
-    loop-holds
+    shorter-requires
+    cmp-bytes-requires
     returns
-    shared-slice-read-if2
-    shared-slice-read-if2-2
+    loop-holds
+    word-requires
+    word-requires-2
+    cmp-number-requires
     returns-2
-    shared-slice-read-if3
-    shared-slice-read-if3-2
-    returns-3
     add-i
     loop-less
     loop-again
-    returns-4
-    returns-5)
+    word-requires-3
+    word-requires-4
+    cmp-number-requires-2
+    returns-3
+    cmp-number-requires-3
+    returns-4)
