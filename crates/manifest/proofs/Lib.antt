@@ -1,0 +1,5 @@
+pub mod ViewRanges
+pub mod Steps
+pub mod RangeExits
+pub mod CheckExits
+pub mod ImageExits

@@ -1,0 +1,105 @@
+-- The exits of the functions on a table's own range and a view's effective range.
+-- Assumes nothing.
+use Prim.Native.Nat.{ℕ}
+use mathlib.Core.Path.{_≡_, refl, ap, _∙_}
+use mathlib.Core.Bool.{Bool, true, false}
+use mathlib.Core.List.{List}
+use lib.ListN.{take, drop}
+use Rattle.key.specs.Order.{Key}
+use Rattle.comparable_range.specs.Range.{Range, boundOf, of, startSide, endSide}
+use Rattle.comparable_range.specs.declared.Side.{Side}
+use Rattle.comparable_range.specs.declared.Side.the-variants.{First, Second}
+use Rattle.comparable_range.specs.declared.Kind.{Kind}
+use Rattle.comparable_range.specs.declared.Kind.the-variants.{Unbounded, Included}
+use Rattle.format.specs.Range.{boundIn, rangeIn, BoundInside}
+use Rattle.format.specs.declared.range.BoundSpan.{BoundSpan}
+use Rattle.records.specs.Spans.{tableIn, viewIn, ViewInside, ifSo}
+use Rattle.records.specs.declared.tables.TableSpan.{TableSpan}
+use Rattle.records.specs.declared.views.ViewSpan.{ViewSpan}
+use Rattle.manifest.specs.Ranges.{own, lastBound, effective}
+use Rattle.manifest.specs.Spans.{firstSpan, lastKind, lastSpan, EffectiveFound}
+
+-- ---- own_end
+abbrev span : Kind → ℕ → ℕ → BoundSpan
+span k i n = record { kind = k; at = i; len = n }
+
+pub with-last : (f : Bool) (i n : ℕ) → f ≡ true → span Included i n ≡ span (lastKind f) i n
+with-last f i n e = rw e
+
+pub without-last : (f : Bool) (i n : ℕ) → f ≡ false → span Unbounded i n ≡ span (lastKind f) i n
+without-last f i n e = rw e
+
+pub ruleset own-exits = (with-last, without-last)
+
+-- ---- greater_start, lesser_end
+module _ (s : List ℕ) (a b : BoundSpan) {x y : List ℕ} {d : Side} {r : BoundSpan} (p : x ≡ take (a .len) (drop (a .at) s)) (q : y ≡ take (b .len) (drop (b .at) s)) where
+  pub start-chosen : d ≡ startSide (boundOf (a .kind) x) (boundOf (b .kind) y) → r ≡ of d a b → r ≡ of (startSide (boundIn s a) (boundIn s b)) a b
+  start-chosen h w = w ∙ rw (h, p, q)
+
+  pub end-chosen : d ≡ endSide (boundOf (a .kind) x) (boundOf (b .kind) y) → r ≡ of d a b → r ≡ of (endSide (boundIn s a) (boundIn s b)) a b
+  end-chosen h w = w ∙ rw (h, p, q)
+
+pub ruleset side-exits = (start-chosen, end-chosen)
+
+-- ---- effective
+of-in : (s : List ℕ) (d : Side) (a b : BoundSpan) → boundIn s (of d a b) ≡ of d (boundIn s a) (boundIn s b)
+of-in s First a b = refl
+of-in s Second a b = refl
+
+of-inside : (s : List ℕ) (d : Side) (a b : BoundSpan) → BoundInside s a → BoundInside s b → BoundInside s (of d a b)
+of-inside s First a b p q = p
+of-inside s Second a b p q = q
+
+last-in : (f : Bool) (k : Key) → boundOf (lastKind f) k ≡ lastBound (ifSo f k)
+last-in true k = refl
+last-in false k = refl
+
+pub own-in : (s : List ℕ) (t : TableSpan) → rangeIn s (firstSpan t) (lastSpan t) ≡ own (tableIn s t)
+own-in s t = rw (last-in (t .flagged) (take (t .«last_len») (drop (t .«last_at») s)))
+
+module _ (s : List ℕ) (v : ViewSpan) (p : ViewInside s v) where
+  pub first-inside : {o : BoundSpan} → o ≡ firstSpan (v .table) → BoundInside s o
+  first-inside e = rw e (p .table .first)
+
+  pub last-inside : {o : BoundSpan} → o ≡ lastSpan (v .table) → BoundInside s o
+  last-inside e = rw e (p .table .last)
+
+  pub start-inside : BoundInside s (v .start)
+  start-inside = p .start
+
+  pub end-inside : BoundInside s (v .end)
+  end-inside = p .end
+
+module _ (s : List ℕ) (v : ViewSpan) (p : ViewInside s v) {a b : BoundSpan} (h : a ≡ firstSpan (v .table)) (l : b ≡ lastSpan (v .table)) where
+  own-is : rangeIn s a b ≡ own (tableIn s (v .table))
+  own-is = ap (λ c. rangeIn s c b) h ∙ ap (λ c. rangeIn s (firstSpan (v .table)) c) l ∙ own-in s (v .table)
+
+  pub not-shown : v .shown ≡ false → EffectiveFound s v (record { start = a; end = b })
+  unfolding effective
+  not-shown e = record { meaning = own-is ∙ rw e; start = first-inside s v p h; end = last-inside s v p l }
+
+  pub shown :
+      {c d : BoundSpan}
+      → v .shown ≡ true
+      → c ≡ of (startSide (boundIn s a) (boundIn s (v .start))) a (v .start)
+      → d ≡ of (endSide (boundIn s b) (boundIn s (v .end))) b (v .end)
+      → EffectiveFound s v (record { start = c; end = d })
+  unfolding effective
+  shown e x y =
+      record {
+        meaning = cut e x y;
+        start = rw x (of-inside s (startSide (boundIn s a) (boundIn s (v .start))) a (v .start) (first-inside s v p h) (p .start));
+        end = rw y (of-inside s (endSide (boundIn s b) (boundIn s (v .end))) b (v .end) (last-inside s v p l) (p .end));
+      }
+    where
+      starts : boundIn s a ≡ own (tableIn s (v .table)) .start
+      starts = ap (λ (r : Range). r .start) own-is
+
+      ends : boundIn s b ≡ own (tableIn s (v .table)) .end
+      ends = ap (λ (r : Range). r .end) own-is
+
+      cut : {c d : BoundSpan} → v .shown ≡ true → c ≡ of (startSide (boundIn s a) (boundIn s (v .start))) a (v .start) → d ≡ of (endSide (boundIn s b) (boundIn s (v .end))) b (v .end) → rangeIn s c d ≡ effective (viewIn s v)
+      cut e x y =
+          rw (x, y, of-in s (startSide (boundIn s a) (boundIn s (v .start))) a (v .start), of-in s (endSide (boundIn s b) (boundIn s (v .end))) b (v .end), e, starts, ends)
+
+pub ruleset effective-exits = (first-inside, last-inside, start-inside, end-inside, not-shown, shown)

@@ -1,0 +1,19 @@
+-- Runs and views called by place, from 0.
+use Prim.Native.Nat.{ℕ, zero, suc}
+use mathlib.Core.Option.{Option, none, some}
+use mathlib.Core.List.{List, [], _∷_}
+use Rattle.base.specs.Outcome.{Outcome, stop, answer, andThen}
+use Rattle.records.specs.Values.{View, Image}
+
+unfoldable pub at : {A : Type 0} → List A → ℕ → Option A
+at [] n = none
+at (a ∷ l) zero = some a
+at (a ∷ l) (suc n) = at l n
+
+-- stop 9: it is not in the image
+abbrev pub placed : {A : Type 0} → Option A → Outcome A
+placed none = stop 9
+placed (some a) = answer a
+
+unfoldable pub viewAt : Image → ℕ → ℕ → Outcome View
+viewAt i run view = andThen (placed (at i run)) (λ r. placed (at (r .views) view))

@@ -1,0 +1,5 @@
+pub mod Form
+pub mod Values
+pub mod Layouts
+pub mod Laws
+pub mod Spans

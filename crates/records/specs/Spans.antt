@@ -1,0 +1,153 @@
+-- What the code's answers say of the bytes s that they point into.
+use Prim.Native.Nat.{ℕ, _+_, _≤_}
+use mathlib.Core.Path.{_≡_}
+use mathlib.Core.Bool.{Bool}
+use mathlib.Core.Option.{Option, none, some}
+use mathlib.Core.List.{List}
+use lib.ListN.{length, take, drop}
+use Rattle.base.specs.Pick.{pick}
+use Rattle.base.specs.Outcome.{Outcome, answer}
+use Rattle.base.specs.Outcome as outcome
+use Rattle.key.specs.Order.{Key}
+use Rattle.comparable_range.specs.Range.{Range}
+use Rattle.format.specs.Got.{Got, got, stop}
+use Rattle.format.specs.Key.{KeyInside}
+use Rattle.format.specs.Range.{rangeIn, BoundInside, RangeInside}
+use Rattle.format.specs.declared.KeyRead.{KeyRead}
+use Rattle.format.specs.declared.KeyRead.the-variants.{At as KeyAt, Stop as KeyStop}
+use Rattle.format.specs.declared.range.RangeRead.{RangeRead}
+use Rattle.format.specs.declared.range.RangeRead.the-variants.{At as RangeAt, Stop as RangeStop}
+use Rattle.records.specs.Form.{Form, number, key, range, seq, readIf}
+use Rattle.records.specs.Values.{Table, View}
+use Rattle.records.specs.Layouts.{viewCount}
+use Rattle.records.specs.declared.fields.FlagRead.{FlagRead}
+use Rattle.records.specs.declared.fields.FlagRead.the-variants.{Is, Stop as FlagStop}
+use Rattle.records.specs.declared.tables.TableSpan.{TableSpan}
+use Rattle.records.specs.declared.tables.TableRead.{TableRead}
+use Rattle.records.specs.declared.tables.TableRead.the-variants.{At as TableAt, Stop as TableStop}
+use Rattle.records.specs.declared.views.ViewSpan.{ViewSpan}
+use Rattle.records.specs.declared.views.ViewRead.{ViewRead}
+use Rattle.records.specs.declared.views.ViewRead.the-variants.{At as ViewAt, Stop as ViewStop}
+use Rattle.records.specs.declared.runs.RunRead.{RunRead}
+use Rattle.records.specs.declared.runs.RunRead.the-variants.{At as RunAt, Stop as RunStop}
+use Rattle.records.specs.declared.runs.CountRead.{CountRead}
+use Rattle.records.specs.declared.runs.CountRead.the-variants.{At as CountAt, Stop as CountStop}
+
+abbrev pub flagRead : FlagRead → Outcome Bool
+flagRead (Is f) = answer f
+flagRead (FlagStop n) = outcome.stop n
+
+-- a value that is there if a flag says so
+abbrev pub ifSo : {A : Type 0} → Bool → A → Option A
+ifSo f a = pick f (some a) none
+
+abbrev pub keyIn : List ℕ → ℕ → ℕ → Key
+keyIn s at len = take len (drop at s)
+
+-- ---- tables
+unfoldable pub lastIf : Bool → List ℕ → Got (Option Key)
+lastIf f l = readIf key f l
+
+abbrev pub lastRead : List ℕ → Bool → KeyRead → Got (Option Key)
+lastRead s f (KeyAt at len next) = got (ifSo f (keyIn s at len)) (drop next s)
+lastRead s f (KeyStop n) = stop n
+
+pub record LastFound (s : List ℕ) (f : Bool) (g : Got (Option Key)) (r : KeyRead) : Type 0 where
+  pub meaning : lastRead s f r ≡ g
+  pub inside : KeyInside s r
+
+abbrev pub tableIn : List ℕ → TableSpan → Table
+tableIn s t =
+    record {
+      id = record { 0 = take 16 (drop (t .id) s) };
+      index-offset = t .«index_offset»;
+      index-len = t .«index_len»;
+      filter-offset = t .«filter_offset»;
+      first = keyIn s (t .«first_at») (t .«first_len»);
+      last = ifSo (t .flagged) (keyIn s (t .«last_at») (t .«last_len»));
+    }
+
+pub record TableInside (s : List ℕ) (t : TableSpan) : Type 0 where
+  pub id : t .id + 16 ≤ length s
+  pub first : t .«first_at» + t .«first_len» ≤ length s
+  pub last : t .«last_at» + t .«last_len» ≤ length s
+
+abbrev pub tableRead : List ℕ → TableRead → Got Table
+tableRead s (TableAt t next) = got (tableIn s t) (drop next s)
+tableRead s (TableStop n) = stop n
+
+abbrev pub TableReadInside : List ℕ → TableRead → Type 0
+TableReadInside s (TableAt t next) = TableInside s t × (next ≤ length s)
+TableReadInside s (TableStop n) = Unit
+
+-- the table that a reader finds stands where the answer says
+pub record TableFound (s : List ℕ) (g : Got Table) (r : TableRead) : Type 0 where
+  pub meaning : tableRead s r ≡ g
+  pub inside : TableReadInside s r
+
+-- ---- views
+unfoldable pub rangeIf : Bool → List ℕ → Got (Option Range)
+rangeIf f l = readIf range f l
+
+abbrev pub visibleRead : List ℕ → Bool → RangeRead → Got (Option Range)
+visibleRead s f (RangeAt start end next) = got (ifSo f (rangeIn s start end)) (drop next s)
+visibleRead s f (RangeStop n) = stop n
+
+pub record VisibleFound (s : List ℕ) (f : Bool) (g : Got (Option Range)) (r : RangeRead) : Type 0 where
+  pub meaning : visibleRead s f r ≡ g
+  pub inside : RangeInside s r
+
+abbrev pub viewIn : List ℕ → ViewSpan → View
+viewIn s v =
+    record {
+      id = record { 0 = take 16 (drop (v .id) s) };
+      table = tableIn s (v .table);
+      visible = ifSo (v .shown) (rangeIn s (v .start) (v .end));
+    }
+
+pub record ViewInside (s : List ℕ) (v : ViewSpan) : Type 0 where
+  pub id : v .id + 16 ≤ length s
+  pub table : TableInside s (v .table)
+  pub start : BoundInside s (v .start)
+  pub end : BoundInside s (v .end)
+
+abbrev pub viewRead : List ℕ → ViewRead → Got View
+viewRead s (ViewAt v next) = got (viewIn s v) (drop next s)
+viewRead s (ViewStop n) = stop n
+
+abbrev pub ViewReadInside : List ℕ → ViewRead → Type 0
+ViewReadInside s (ViewAt v next) = ViewInside s v × (next ≤ length s)
+ViewReadInside s (ViewStop n) = Unit
+
+pub record ViewFound (s : List ℕ) (g : Got View) (r : ViewRead) : Type 0 where
+  pub meaning : viewRead s r ≡ g
+  pub inside : ViewReadInside s r
+
+-- ---- runs: id and view count
+abbrev pub runHead : Form (ℕ × ℕ)
+runHead = seq (number 4) (λ id. viewCount)
+
+abbrev pub runRead : List ℕ → RunRead → Got (ℕ × ℕ)
+runRead s (RunAt id views next) = got (id, views) (drop next s)
+runRead s (RunStop n) = stop n
+
+abbrev pub RunReadInside : List ℕ → RunRead → Type 0
+RunReadInside s (RunAt id views next) = next ≤ length s
+RunReadInside s (RunStop n) = Unit
+
+pub record RunFound (s : List ℕ) (g : Got (ℕ × ℕ)) (r : RunRead) : Type 0 where
+  pub meaning : runRead s r ≡ g
+  pub inside : RunReadInside s r
+
+-- ---- counts
+abbrev pub countRead : List ℕ → CountRead → Got ℕ
+countRead s (CountAt n next) = got n (drop next s)
+countRead s (CountStop n) = stop n
+
+abbrev pub CountInside : List ℕ → CountRead → Type 0
+CountInside s (CountAt n next) = next ≤ length s
+CountInside s (CountStop n) = Unit
+
+pub record CountFound (s : List ℕ) (g : Got ℕ) (r : CountRead) : Type 0 where
+  pub meaning : countRead s r ≡ g
+  pub inside : CountInside s r
