@@ -2,3 +2,4 @@ pub mod Checks
 pub mod Pairs
 pub mod Prefixes
 pub mod Answered
+pub mod ImageExits

@@ -1,6 +1,8 @@
 // The public calls. None has a `requires`: each takes any bytes, refuses by the numbers of document 01, and says what it
-// answers for each input as an equation with its definition in specs/Calls.antt. Ranges are range images; keys and
-// prefixes are lent as they are.
+// answers for each input as an equation with its definition in specs/. Ranges are range images; keys and prefixes are
+// lent as they are.
+mod images;
+
 use base::Written;
 use bytes_range::span::Supplied;
 use comparable_range::Kind;
@@ -8,6 +10,11 @@ use comparable_range::Side;
 use comparable_range::Sides;
 use format::BoundSpan;
 use format::RangeRead;
+pub use images::Checked;
+pub use images::ViewRange;
+pub use images::check_image;
+pub use images::compacted_effective_range;
+pub use images::list;
 ghost use mathlib.Core.Path.{_≡_};
 ghost use lib.ListN.{length};
 ghost use Rattle.base.specs.Outcome.{reported, lent};

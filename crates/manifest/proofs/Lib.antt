@@ -3,3 +3,8 @@ pub mod Steps
 pub mod RangeExits
 pub mod CheckExits
 pub mod ImageExits
+pub mod Given
+pub mod JobExits
+pub mod WholeExits
+pub mod IndexExits
+pub mod AnchorExits

@@ -30,7 +30,7 @@ fn visible_passes(s: &[u8], v: ViewSpan) -> bool
 }
 
 // Check 5 of a table: its own range passes exactly if its last key is not below its first.
-fn keys_in_order(s: &[u8], t: TableSpan) -> bool
+pub fn keys_in_order(s: &[u8], t: TableSpan) -> bool
     requires { ⌜ TableInside (now s) t ⌝ }
     ensures { λ r. ⌜ r ≡ keysInOrder (tableIn (now (s .entry)) t) ⌝ }
 {
@@ -79,7 +79,7 @@ fn table_passes(s: &[u8], v: ViewSpan, e: RangeSpan) -> bool
 const MOST_BYTES: u64 = 9007199254740992;
 
 // Check 7: the sum is not made, so it cannot wrap.
-fn size_passes(offset: u64, len: u64) -> bool
+pub fn size_passes(offset: u64, len: u64) -> bool
     ensures { λ r. ⌜ r ≡ sizeFits offset len ⌝ }
 {
     if MOST_BYTES < offset {

@@ -1,9 +1,16 @@
-// What an image says: its checks 4 to 7, and the effective ranges of its views.
+// The checks 4 to 7 of an image, a job, an index and anchors, and the effective ranges of an image's views.
+mod anchors;
 mod checks;
 mod images;
+mod indexes;
+mod jobs;
 mod ranges;
 
+pub use anchors::anchors_judged;
 pub use images::Judged;
 pub use images::image_judged;
+pub use indexes::index_at;
+pub use indexes::index_judged;
+pub use jobs::job_judged;
 pub use ranges::RangeSpan;
 pub use ranges::effective;

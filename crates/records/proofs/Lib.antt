@@ -1,7 +1,11 @@
 pub mod Forms
 pub mod RecordLayouts
 pub mod Many
+pub mod IdExits
 pub mod FieldExits
 pub mod TableExits
 pub mod ViewExits
 pub mod HeadExits
+pub mod There
+pub mod PartExits
+pub mod BlockExits

@@ -5,8 +5,10 @@ use native.Mathlib.Omega.{arith}
 use mathlib.Core.Path.{_≡_, refl, sym, ap, _∙_}
 use mathlib.Core.List.{List, [], _∷_, _++_, append-assoc, append-nil}
 use lib.ListN.{length, drop, length-append}
+use lib.Dec.{T}
 use Rattle.format.specs.Got.{Got, got, stop, andThen}
 use Rattle.records.specs.Form.{readMany}
+use Rattle.records.specs.Found.{isGot, valuesOf}
 
 -- what was read before, in front of what a reader finds
 abbrev pub after : {A : Type 0} → List A → Got (List A) → Got (List A)
@@ -52,3 +54,35 @@ module _ {A : Type 0} {f : List ℕ → Got A} {s : List ℕ} {from n left at : 
   all-read h =
       let z : left ≡ 0 = omega arith in
       p .rest ∙ rw (z, append-nil)
+
+-- ---- values that are known to be there
+pub found-all : {A : Type 0} (g : Got (List A)) → T (isGot g) → (bs : List A) (r : List ℕ) → g ≡ got bs r → valuesOf g ≡ bs
+found-all g t bs r e = rw e
+
+-- what is left, after a value
+pub record Ahead {A : Type 0} (g : Got (List A)) (seen : List A) (a : A) : Type 0 where
+  pub tail : List A
+  pub all : valuesOf g ≡ seen ++ (a ∷ tail)
+
+pub record Front {A : Type 0} (g : Got (List A)) (seen : List A) : Type 0 where
+  pub tail : List A
+  pub all : valuesOf g ≡ seen ++ tail
+
+module _ {A : Type 0} {f : List ℕ → Got A} {s : List ℕ} {from n left at : ℕ} {seen : List A} (p : Reading f s from n left at seen) (t : T (isGot (readMany f n (drop from s)))) where
+  pub no-stop : {k : ℕ} → 0 < left → f (drop at s) ≡ stop k → ⊥
+  no-stop {k} h e = rw (stopped p {k = k} h e) at t
+
+  pub ahead : {a : A} (r : List ℕ) → 0 < left → f (drop at s) ≡ got a r → Ahead (readMany f n (drop from s)) seen a
+  ahead {a} r h e = go (readMany f (left - 1) r) (p .rest ∙ rw (one-of f left (drop at s) h, e)) t
+    where
+      go : (g : Got (List A)) → readMany f n (drop from s) ≡ after seen (andThen g (λ bs q. got (a ∷ bs) q)) → T (isGot (readMany f n (drop from s))) → Ahead (readMany f n (drop from s)) seen a
+      go (got bs q) w t = record { tail = bs; all = rw w }
+      go (stop k) w t = absurd (rw w at t)
+
+  -- those seen stand first
+  pub front : Front (readMany f n (drop from s)) seen
+  front = go (readMany f left (drop at s)) (p .rest) t
+    where
+      go : (g : Got (List A)) → readMany f n (drop from s) ≡ after seen g → T (isGot (readMany f n (drop from s))) → Front (readMany f n (drop from s)) seen
+      go (got bs q) w t = record { tail = bs; all = rw w }
+      go (stop k) w t = absurd (rw w at t)

@@ -2,4 +2,5 @@ pub mod Form
 pub mod Values
 pub mod Layouts
 pub mod Laws
+pub mod Found
 pub mod Spans

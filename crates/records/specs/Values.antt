@@ -5,8 +5,8 @@ use mathlib.Core.Option.{Option}
 use mathlib.Core.List.{List}
 use Rattle.key.specs.Order.{Key}
 use Rattle.comparable_range.specs.Range.{Range}
-use Rattle.records.specs.declared.TableId.{TableId}
-use Rattle.records.specs.declared.ViewId.{ViewId}
+use Rattle.records.specs.declared.ids.TableId.{TableId}
+use Rattle.records.specs.declared.ids.ViewId.{ViewId}
 
 pub record Table : Type 0 where
   pub id : TableId

@@ -1,0 +1,6 @@
+pub mod Pieces
+pub mod Lengths
+pub mod Lines
+pub mod LineExits
+pub mod Loops
+pub mod WholeListing

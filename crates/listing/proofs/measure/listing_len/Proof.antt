@@ -1,0 +1,39 @@
+-- `listing::listing_len` meets its contract.
+-- Assumes nothing.
+use Rattle.listing.proofs.WholeListing.{listing-len-exits}
+use borrow.Author.Needs.{needs}
+use Rattle.listing.proofs.measure.listing_len.Statement.{statement}
+use Rattle.listing.proofs.measure.listing_len.Tie as tie
+
+count-at-requires : tie.Need-count-at-requires
+count-at-requires c κs = search (needs, listing-len-exits)
+
+enum-told : tie.Need-enum-told
+enum-told c = search (needs, listing-len-exits)
+
+enum-known-n : tie.Need-enum-known-n
+enum-known-n c = search (needs, listing-len-exits)
+
+runs-len-requires : tie.Need-runs-len-requires
+runs-len-requires c κs = search (needs, listing-len-exits)
+
+add-result : tie.Need-add-result
+add-result c = search (needs, listing-len-exits)
+
+returns : tie.Need-returns
+returns c = search (needs, listing-len-exits)
+
+returns-2 : tie.Need-returns-2
+returns-2 c = search (needs, listing-len-exits)
+
+pub listing-len-spec : {M : Type 1} → statement M
+listing-len-spec =
+    tie.close
+    (tie.spec
+    count-at-requires
+    enum-told
+    enum-known-n
+    runs-len-requires
+    add-result
+    returns
+    returns-2)
