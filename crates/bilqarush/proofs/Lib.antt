@@ -3,3 +3,4 @@ pub mod Pairs
 pub mod Prefixes
 pub mod Answered
 pub mod ImageExits
+pub mod Example

@@ -1,4 +1,5 @@
 pub mod Calls
 pub mod Answers
 pub mod ImageCalls
+pub mod Example
 pub mod Laws

@@ -99,17 +99,16 @@ unfolding decimalIn
 decimal-in-most zero n = omega arith
 decimal-in-most (suc k) n = one-digit-more (ltb n 10) k (glyph n) (decimalIn k (n / 10)) (glyph (n % 10)) (decimal-in-most k (n / 10))
 
-decimal-most : (n : ℕ) → length (decimal n) ≤ 20
+pub decimal-most : (n : ℕ) → length (decimal n) ≤ 20
 unfolding decimal
 decimal-most n = decimal-in-most 20 n
 
 -- ---- line_len
 pub line-length :
     (id place : ℕ) (v : View)
-    → length (v .table .id .0) ≡ 16
-    → length (line id place v) ≡ length (decimal id) + length (decimal place) + 37 + length (startText (effective v .start)) + length (endText (effective v .end))
+    → length (line id place v) ≡ length (decimal id) + length (decimal place) + 2 * length (v .table .id .0) + 5 + length (startText (effective v .start)) + length (endText (effective v .end))
 unfolding line names boundsText
-line-length id place v h =
+line-length id place v =
     simp (length-append) (omega (arith, hex-length (v .table .id .0)))
 
 module _ (s : List ℕ) (v : ViewSpan) (id place : ℕ) (p : ViewInside s v) {e : RangeSpan} (x : EffectiveFound s v e) where
@@ -127,7 +126,7 @@ module _ (s : List ℕ) (v : ViewSpan) (id place : ℕ) (p : ViewInside s v) {e 
     line-is =
         let start : length (startText (boundIn s (e .start))) ≡ length (startText (effective (viewIn s v) .start)) = ap (λ (r : Range). length (startText (r .start))) (x .meaning) in
         let end : length (endText (boundIn s (e .end))) ≡ length (endText (effective (viewIn s v) .end)) = ap (λ (r : Range). length (endText (r .end))) (x .meaning) in
-        omega (arith, line-length id place (viewIn s v) id-length)
+        omega (arith, line-length id place (viewIn s v), id-length)
 
     pub line-most : length s ≤ 65536 → a + b + 37 + c + d ≤ 262223
     line-most l = omega (arith, decimal-most id, decimal-most place, start-most s (e .start) (x .start) l, end-most s (e .end) (x .end) l)

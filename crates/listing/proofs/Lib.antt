@@ -4,3 +4,4 @@ pub mod Lines
 pub mod LineExits
 pub mod Loops
 pub mod WholeListing
+pub mod Short

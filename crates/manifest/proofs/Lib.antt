@@ -4,6 +4,7 @@ pub mod RangeExits
 pub mod CheckExits
 pub mod ImageExits
 pub mod Given
+pub mod ImageLaws
 pub mod JobExits
 pub mod WholeExits
 pub mod IndexExits

@@ -1,12 +1,18 @@
--- The promises on tables' own ranges and views' effective ranges. Their proofs are in proofs/.
+-- The promises on tables' own ranges, views' effective ranges and accepted images. Their proofs are in proofs/.
+use Prim.Native.Nat.{ℕ, _≤_}
 use mathlib.Core.Path.{_≡_}
 use mathlib.Core.Bool.{Bool, true, _&&_}
 use mathlib.Core.Option.{Option, none, some}
+use mathlib.Core.List.{List}
+use lib.ListN.{length}
+use Rattle.base.specs.Bytes.{Bytes}
+use Rattle.base.specs.Outcome.{answer}
 use Rattle.key.specs.Order.{Key}
-use Rattle.comparable_range.specs.Range.{Range, included, holds}
-use Rattle.records.specs.Values.{Table, View}
+use Rattle.comparable_range.specs.Range.{Range, included, holds, intersect}
+use Rattle.records.specs.Values.{Table, View, Image}
+use Rattle.records.specs.Layouts.{image}
 use Rattle.manifest.specs.Ranges.{own, effective}
-use Rattle.manifest.specs.Checks.{keysInOrder, tablePasses}
+use Rattle.manifest.specs.Checks.{keysInOrder, tablePasses, checked, imageChecks, imageGiven}
 
 -- a table's own range starts included, and holds its first key unless its last key is below it
 abbrev pub OwnHoldsFirst : Type 0
@@ -31,3 +37,22 @@ seenThrough (some r) x = holds r x
 abbrev pub EffectiveHoldsWhatBothHold : Type 0
 EffectiveHoldsWhatBothHold =
     (v : View) (x : Key) → holds (effective v) x ≡ (holds (own (v .table)) x && seenThrough (v .visible) x)
+
+-- it is the intersection of the two, which a view that passes check 5 has
+abbrev pub EffectiveIsTheIntersection : Type 0
+EffectiveIsTheIntersection =
+    (v : View) (r : Range) → v .visible ≡ some r → tablePasses v ≡ true → intersect (own (v .table)) r ≡ some (effective v)
+
+-- without a visible range it is the table's own range
+abbrev pub EffectiveIsOwn : Type 0
+EffectiveIsOwn = (v : View) → v .visible ≡ none → effective v ≡ own (v .table)
+
+-- ---- images, as bytes
+-- bytes that are accepted as an image are the writing of its value
+abbrev pub OnlyWritingsAreImages : Type 0
+OnlyWritingsAreImages = (l : List ℕ) (i : Image) → Bytes l → imageGiven l ≡ answer i → l ≡ image .write i
+
+-- the writing of a value within the ceilings is accepted as that value, unless a check from 4 to 7 refuses it
+abbrev pub WrittenImagesAreRead : Type 0
+WrittenImagesAreRead =
+    (i : Image) → image .Within i → length (image .write i) ≤ 65536 → imageGiven (image .write i) ≡ checked (imageChecks i) (answer i)
