@@ -9,3 +9,4 @@ pub mod HeadExits
 pub mod There
 pub mod PartExits
 pub mod BlockExits
+pub mod Examples

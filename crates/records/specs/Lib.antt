@@ -4,3 +4,4 @@ pub mod Layouts
 pub mod Laws
 pub mod Found
 pub mod Spans
+pub mod Examples
