@@ -22,10 +22,10 @@ use Rattle.records.specs.declared.runs.RunRead.{RunRead}
 use Rattle.records.specs.declared.runs.RunRead.the-variants.{At as RunAt, Stop as RunStop}
 use Rattle.records.specs.declared.runs.CountRead.{CountRead}
 use Rattle.records.specs.declared.runs.CountRead.the-variants.{At as CountAt, Stop as CountStop}
-use Rattle.records.proofs.Many.{Reading, begin, onward, all-read, no-stop}
+use Rattle.records.proofs.Walk.{Walk, walk-begin, walk-all, walk-never, walk-here, walk-onward}
 use Rattle.records.proofs.Forms.{readMany-length}
 use Rattle.records.proofs.HeadExits.{runOf, image-is}
-use Rattle.records.proofs.There.{here-got, run-stops, run-opened, views-place, views-there, run-past}
+use Rattle.records.proofs.There.{run-stops, run-opened, views-place, views-there, run-past}
 use Rattle.manifest.specs.Checks.{imageChecks}
 use Rattle.manifest.specs.Spans.{JudgedWhole}
 use Rattle.manifest.specs.declared.images.Judged.{Judged}
@@ -35,69 +35,66 @@ use Rattle.db_state.specs.Places.{at as index-at, placed, viewAt, viewGi
 use Rattle.db_state.specs.Spans.{Past, viewOfRun, ViewPlaced}
 use Rattle.db_state.proofs.Nth.{Nth, nth, past-all}
 
--- ---- a walk over values that are there
-pub record Walking {A : Type 0} (f : List ℕ → Got A) (s : List ℕ) (from n left at : ℕ) : Type 0 where
+-- ---- a walk that keeps nothing but its place
+pub record Walked {A : Type 0} (f : List ℕ → Got A) (s : List ℕ) (from n k at : ℕ) : Type 0 where
   pub seen : List A
-  pub reading : Reading f s from n left at seen
-  pub there : T (isGot (readMany f n (drop from s)))
+  pub walk : Walk f s from n k at seen
 
-walk-begin : {A : Type 0} (f : List ℕ → Got A) (s : List ℕ) (from n : ℕ) → from ≤ length s → T (isGot (readMany f n (drop from s))) → Walking f s from n n from
-walk-begin f s from n h t = record { seen = []; reading = begin f s from n h; there = t }
-
-module _ {A : Type 0} {f : List ℕ → Got A} {s : List ℕ} {from n left at : ℕ} (p : Walking f s from n left at) where
-  walk-end : left ≤ 0 → Past s (readMany f n (drop from s)) at
-  walk-end h = record { is = let e = all-read (p .reading) h in rw e; inside = p .reading .within }
-
-  walk-stop : {k : ℕ} → 0 < left → f (drop at s) ≡ stop k → Past s (readMany f n (drop from s)) at
-  walk-stop h e = absurd (no-stop (p .reading) (p .there) h e)
-
-  walk-onward : {a : A} {next : ℕ} → 0 < left → f (drop at s) ≡ got a (drop next s) → next ≤ length s → Walking f s from n (left - 1) next
-  walk-onward {a} h e w = record { seen = p .seen ++ (a ∷ []); reading = onward (p .reading) h e w; there = p .there }
+past : {A : Type 0} {f : List ℕ → Got A} {s : List ℕ} {from n k at : ℕ} → Walked f s from n k at → n ≤ k → Past s (readMany f n (drop from s)) at
+past p h = record { is = let e = walk-all (p .walk) h in rw e; inside = p .walk .reading .within }
 
 -- ---- views_end
-pub views-begin : (s : List ℕ) (from n : ℕ) → from ≤ length s → T (isGot (readMany (view .read) n (drop from s))) → Walking (view .read) s from n n from
-views-begin = walk-begin (view .read)
+pub views-begin : (s : List ℕ) (from n : ℕ) → from ≤ length s → T (isGot (readMany (view .read) n (drop from s))) → Walked (view .read) s from n 0 from
+views-begin s from n h t = record { seen = []; walk = walk-begin (view .read) s from n h t }
 
-module _ {s : List ℕ} {from n left at : ℕ} (p : Walking (view .read) s from n left at) where
+module _ {s : List ℕ} {from n k at : ℕ} (p : Walked (view .read) s from n k at) where
   pub views-at : at ≤ length s
-  views-at = p .reading .within
+  views-at = p .walk .reading .within
 
-  pub views-past : left ≤ 0 → Past s (readMany (view .read) n (drop from s)) at
-  views-past h = walk-end p h
+  pub views-past : n ≤ k → Past s (readMany (view .read) n (drop from s)) at
+  views-past h = past p h
 
-  module _ (h : 0 < left) {r : ViewRead} (f : ViewFound s (view .read (drop at s)) r) where
-    pub views-never : {k : ℕ} → r ≡ ViewStop k → Past s (readMany (view .read) n (drop from s)) at
-    views-never {k} q = walk-stop p {k = k} h (sym (f .meaning) ∙ rw q)
+  module _ (h : k < n) {r : ViewRead} (f : ViewFound s (view .read (drop at s)) r) where
+    pub views-never : {j : ℕ} → r ≡ ViewStop j → Past s (readMany (view .read) n (drop from s)) at
+    views-never {j} q = absurd (walk-never (p .walk) h {j = j} (sym (f .meaning) ∙ rw q))
 
-    pub views-onward : {v : ViewSpan} {next : ℕ} → r ≡ ViewAt v next → Walking (view .read) s from n (left - 1) next
-    views-onward {v} q = walk-onward p {a = viewIn s v} h (sym (f .meaning) ∙ rw q) ((rw q at (f .inside)) .1)
+    pub views-onward : {v : ViewSpan} {next : ℕ} → r ≡ ViewAt v next → Walked (view .read) s from n (k + 1) next
+    views-onward {v} q =
+        record {
+          seen = p .seen ++ (viewIn s v ∷ []);
+          walk = walk-onward (p .walk) h {a = viewIn s v} (sym (f .meaning) ∙ rw q) ((rw q at (f .inside)) .1);
+        }
 
 pub ruleset view-walk = (views-begin, views-at, views-past, views-never, views-onward)
 
 -- ---- runs_end
-pub runs-begin : (s : List ℕ) (from n : ℕ) → from ≤ length s → T (isGot (readMany (run .read) n (drop from s))) → Walking (run .read) s from n n from
-runs-begin = walk-begin (run .read)
+pub runs-begin : (s : List ℕ) (from n : ℕ) → from ≤ length s → T (isGot (readMany (run .read) n (drop from s))) → Walked (run .read) s from n 0 from
+runs-begin s from n h t = record { seen = []; walk = walk-begin (run .read) s from n h t }
 
-module _ {s : List ℕ} {from n left at : ℕ} (p : Walking (run .read) s from n left at) where
+module _ {s : List ℕ} {from n k at : ℕ} (p : Walked (run .read) s from n k at) where
   pub runs-at : at ≤ length s
-  runs-at = p .reading .within
+  runs-at = p .walk .reading .within
 
-  pub runs-past : left ≤ 0 → Past s (readMany (run .read) n (drop from s)) at
-  runs-past h = walk-end p h
+  pub runs-past : n ≤ k → Past s (readMany (run .read) n (drop from s)) at
+  runs-past h = past p h
 
-  module _ (h : 0 < left) {r : RunRead} (f : RunFound s (runHead .read (drop at s)) r) where
-    pub runs-never : {k : ℕ} → r ≡ RunStop k → Past s (readMany (run .read) n (drop from s)) at
-    runs-never {k} q = walk-stop p {k = k} h (run-stops s at f q)
+  module _ (h : k < n) {r : RunRead} (f : RunFound s (runHead .read (drop at s)) r) where
+    pub runs-never : {j : ℕ} → r ≡ RunStop j → Past s (readMany (run .read) n (drop from s)) at
+    runs-never {j} q = absurd (walk-never (p .walk) h {j = j} (run-stops s at f q))
 
     module _ {i m next : ℕ} (q : r ≡ RunAt i m next) where
       pub run-views-from : next ≤ length s
       run-views-from = views-place s at f q
 
       pub run-views-there : T (isGot (readMany (view .read) m (drop next s)))
-      run-views-there = views-there s at f q (here-got (p .reading) (p .there) h)
+      run-views-there = views-there s at f q (walk-here (p .walk) h)
 
-      pub runs-onward : {e : ℕ} → Past s (readMany (view .read) m (drop next s)) e → Walking (run .read) s from n (left - 1) e
-      runs-onward {e} x = walk-onward p h (run-past s at f q e (x .is)) (x .inside)
+      pub runs-onward : {e : ℕ} → Past s (readMany (view .read) m (drop next s)) e → Walked (run .read) s from n (k + 1) e
+      runs-onward {e} x =
+          record {
+            seen = p .seen ++ (runOf i (valuesOf (readMany (view .read) m (drop next s))) ∷ []);
+            walk = walk-onward (p .walk) h (run-past s at f q e (x .is)) (x .inside);
+          }
 
 pub ruleset run-walk = (runs-begin, runs-at, runs-past, runs-never, run-views-from, run-views-there, runs-onward)
 

@@ -17,16 +17,16 @@ pub fn views_end(s: &[u8], from: usize, n: usize) -> usize
     requires { ⌜ from ≤ length (now s) ⌝ ∗ ⌜ T (isGot (readMany (view .read) n (drop from (now s)))) ⌝ }
     ensures { λ r. ⌜ Past (now (s .entry)) (readMany (view .read) n (drop from (now (s .entry)))) r ⌝ }
 {
-    let mut left = n;
+    let mut seen = 0;
     let mut at = from;
-    while 0 < left {
+    while seen < n {
         match records::view_at(s, at) {
             ViewRead::Stop(_) => {
                 return at;
             }
             ViewRead::At(_, next) => {
                 at = next;
-                left -= 1;
+                seen += 1;
             }
         }
     }
@@ -38,16 +38,16 @@ fn runs_end(s: &[u8], from: usize, n: usize) -> usize
     requires { ⌜ from ≤ length (now s) ⌝ ∗ ⌜ T (isGot (readMany (run .read) n (drop from (now s)))) ⌝ }
     ensures { λ r. ⌜ Past (now (s .entry)) (readMany (run .read) n (drop from (now (s .entry)))) r ⌝ }
 {
-    let mut left = n;
+    let mut seen = 0;
     let mut at = from;
-    while 0 < left {
+    while seen < n {
         match records::run_at(s, at) {
             RunRead::Stop(_) => {
                 return at;
             }
             RunRead::At { id: _, views, next } => {
                 at = views_end(s, next, views);
-                left -= 1;
+                seen += 1;
             }
         }
     }

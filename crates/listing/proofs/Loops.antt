@@ -9,7 +9,7 @@ use lib.Dec.{T}
 use mir.Val.{Fits}
 use mir.Syntax.{w64}
 use Rattle.base.specs.Splice.{splice, splice-none, splice-splice, length-splice}
-use Rattle.format.specs.Got.{Got, got, stop}
+use Rattle.format.specs.Got.{Got, got}
 use Rattle.records.specs.Form.{readMany}
 use Rattle.records.specs.Found.{isGot, valuesOf}
 use Rattle.records.specs.Values.{View, Run}
@@ -20,9 +20,9 @@ use Rattle.records.specs.declared.views.ViewRead.{ViewRead}
 use Rattle.records.specs.declared.views.ViewRead.the-variants.{At as ViewAt, Stop as ViewStop}
 use Rattle.records.specs.declared.runs.RunRead.{RunRead}
 use Rattle.records.specs.declared.runs.RunRead.the-variants.{At as RunAt, Stop as RunStop}
-use Rattle.records.proofs.Many.{Reading, begin, onward, all-read, no-stop, Ahead, ahead, front}
 use Rattle.records.proofs.HeadExits.{runOf}
-use Rattle.records.proofs.There.{here-got, run-stops, views-place, views-there, run-past, views-most, run-here}
+use Rattle.records.proofs.Walk.{Walk, walk-begin, walk-all, walk-never, walk-here, walk-ahead, walk-onward, walk-front}
+use Rattle.records.proofs.There.{run-stops, views-place, views-there, run-past, views-most, run-here}
 use Rattle.listing.specs.Listing.{line, lines, runLines}
 use Rattle.listing.specs.Spans.{ReachedPast}
 use Rattle.listing.specs.declared.Reached.{Reached}
@@ -30,45 +30,6 @@ use Rattle.listing.proofs.Lines.{lines-append, lines-more, run-lines-ap
 
 abbrev reached : ℕ → ℕ → Reached
 reached next to = record { next = next; to = to }
-
--- ---- a walk over the first k of n values that are there
-pub record Walk {A : Type 0} (f : List ℕ → Got A) (s : List ℕ) (from n k at : ℕ) (seen : List A) : Type 0 where
-  pub reading : Reading f s from n (n - k) at seen
-  pub there : T (isGot (readMany f n (drop from s)))
-  pub upto : k ≤ n
-  pub count : length seen ≡ k
-
-walk-begin : {A : Type 0} (f : List ℕ → Got A) (s : List ℕ) (from n : ℕ) → from ≤ length s → T (isGot (readMany f n (drop from s))) → Walk f s from n 0 from []
-walk-begin f s from n h t =
-    let z : n - 0 ≡ n = omega arith in
-    record { reading = rw z (begin f s from n h); there = t; upto = omega arith; count = refl }
-
-module _ {A : Type 0} {f : List ℕ → Got A} {s : List ℕ} {from n k at : ℕ} {seen : List A} (p : Walk f s from n k at seen) where
-  walk-all : n ≤ k → readMany f n (drop from s) ≡ got seen (drop at s)
-  walk-all h = let z : n - k ≤ 0 = omega arith in all-read (p .reading) z
-
-  module _ (h : k < n) where
-    left : 0 < n - k
-    left = omega arith
-
-    walk-never : {j : ℕ} → f (drop at s) ≡ stop j → ⊥
-    walk-never e = no-stop (p .reading) (p .there) left e
-
-    walk-here : T (isGot (f (drop at s)))
-    walk-here = here-got (p .reading) (p .there) left
-
-    walk-ahead : {a : A} (r : List ℕ) → f (drop at s) ≡ got a r → Ahead (readMany f n (drop from s)) seen a
-    walk-ahead r e = ahead (p .reading) (p .there) r left e
-
-    walk-onward : {a : A} {next : ℕ} → f (drop at s) ≡ got a (drop next s) → next ≤ length s → Walk f s from n (k + 1) next (seen ++ (a ∷ []))
-    walk-onward e w =
-        let z : n - k - 1 ≡ n - (k + 1) = omega arith in
-        record {
-          reading = rw z at (onward (p .reading) left e w);
-          there = p .there;
-          upto = omega arith;
-          count = rw length-append (omega (arith, p .count));
-        }
 
 -- what was read of all, and how far
 past-all :
@@ -202,7 +163,7 @@ module _ {s : List ℕ} {from n id : ℕ} {d : List ℕ} {first : ℕ} {out : Li
 
   pub views-put-length : length out ≡ length d
   views-put-length =
-      let a = front (p .walk .reading) (p .walk .there) in
+      let a = walk-front (p .walk) in
       let b : length (lines id 0 (p .seen)) ≤ length (lines id 0 (valuesOf (readMany (view .read) n (drop from s)))) = rw (a .all, lines-append id 0 (p .seen) (a .tail), length-append) (omega arith) in
       ap length (p .is) ∙ length-splice d first (lines id 0 (p .seen)) (omega (arith, p .room))
 
@@ -273,7 +234,7 @@ module _ {s : List ℕ} {from n : ℕ} {d : List ℕ} {first : ℕ} {out : List 
 
   pub runs-put-length : length out ≡ length d
   runs-put-length =
-      let a = front (p .walk .reading) (p .walk .there) in
+      let a = walk-front (p .walk) in
       let b : length (runLines (p .seen)) ≤ length (runLines (valuesOf (readMany (run .read) n (drop from s)))) = rw (a .all, run-lines-append (p .seen) (a .tail), length-append) (omega arith) in
       ap length (p .is) ∙ length-splice d first (runLines (p .seen)) (omega (arith, p .room))
 

@@ -1,5 +1,5 @@
 -- What the loop over anchors keeps: the anchors read so far, and their total, or 2^63 if that is less; and the exits of
--- `anchors_judged`.
+-- `anchors_front`.
 -- Assumes nothing.
 use Prim.Native.Nat.{ℕ, _+_, _-_, _^_, _≤_, _<_}
 use native.Mathlib.Omega.{arith}
@@ -12,7 +12,6 @@ use mir.Val.{Fits}
 use mir.Syntax.{w64}
 use borrow.Author.Tests.{lt-ltb, le-ltb, ltb-true, ltb-false}
 use Rattle.base.specs.Pick.{pick}
-use Rattle.format.specs.Whole.{whole}
 use Rattle.records.specs.Form.{readMany}
 use Rattle.records.specs.Values.{Anchor}
 use Rattle.records.specs.Layouts.{anchor, anchors, upTo}
@@ -25,10 +24,9 @@ use Rattle.records.proofs.Many.{Reading, begin, stopped, onward, all-read}
 use Rattle.records.proofs.BlockExits.{anchors-is}
 use Rattle.manifest.specs.Checks.{total, anchorsChecks}
 use Rattle.manifest.specs.Faults.{faultOf, least}
-use Rattle.manifest.specs.Spans.{faults, JudgedFound, JudgedWhole}
+use Rattle.manifest.specs.Spans.{faults, JudgedFound}
 use Rattle.manifest.specs.declared.images.Judged.{Judged}
 use Rattle.manifest.specs.declared.images.Judged.the-variants.{At, Stop}
-use Rattle.manifest.proofs.WholeExits.{whole-large, whole-stop, whole-left, whole-read}
 
 -- ---- a total that stops at a limit
 module _ (limit t : ℕ) where
@@ -126,31 +124,18 @@ module _ {s : List ℕ} {from n left at sum : ℕ} (p : AnchorsSeen s from n lef
 
 pub ruleset anchors-exits = (anchors-begin, anchors-at, sum-most, total-passes, total-fails, anchor-stop, anchors-onward)
 
--- ---- anchors_judged
+-- ---- anchors_front
 module _ (s : List ℕ) {r : CountRead} (f : CountFound s (upTo 2 4096 .read (drop 0 s)) r) where
-  counted-stop : {k : ℕ} → r ≡ CountStop k → JudgedFound s (faults anchorsChecks (anchors .read (drop 0 s))) (Stop k)
-  counted-stop q = record { meaning = rw (anchors-is s, ← (f .meaning), q); inside = tt }
-
-  pub no-anchors : {k : ℕ} → length s ≤ 65536 → r ≡ CountStop k → JudgedWhole s anchorsChecks (whole (anchors .read) s) (Stop k)
-  no-anchors l q = whole-stop anchorsChecks (anchors .read) s l (counted-stop q) refl
+  pub no-anchors : {k : ℕ} → r ≡ CountStop k → JudgedFound s (faults anchorsChecks (anchors .read s)) (Stop k)
+  no-anchors q = record { meaning = rw (anchors-is s, ← (f .meaning), q); inside = tt }
 
   module _ {n first : ℕ} (q : r ≡ CountAt n first) where
     pub anchors-place : first ≤ length s
     anchors-place = rw q at (f .inside)
 
-    module _ (l : length s ≤ 65536) {w : Judged} (x : JudgedFound s (faults anchorsChecks (readMany (anchor .read) n (drop first s))) w) where
-      all-found : JudgedFound s (faults anchorsChecks (anchors .read (drop 0 s))) w
-      all-found =
-          let z : anchors .read s ≡ readMany (anchor .read) n (drop first s) = anchors-is s ∙ rw (← (f .meaning), q) in
-          record { meaning = x .meaning ∙ sym (ap (faults anchorsChecks) z); inside = x .inside }
+    pub all-anchors : {w : Judged} → JudgedFound s (faults anchorsChecks (readMany (anchor .read) n (drop first s))) w → JudgedFound s (faults anchorsChecks (anchors .read s)) w
+    all-anchors x =
+        let z : anchors .read s ≡ readMany (anchor .read) n (drop first s) = anchors-is s ∙ rw (← (f .meaning), q) in
+        record { meaning = x .meaning ∙ sym (ap (faults anchorsChecks) z); inside = x .inside }
 
-      pub anchors-stop : {k : ℕ} → w ≡ Stop k → JudgedWhole s anchorsChecks (whole (anchors .read) s) (Stop k)
-      anchors-stop y = whole-stop anchorsChecks (anchors .read) s l all-found y
-
-      pub anchors-left : {next fault : ℕ} → w ≡ At next fault → next < length s → JudgedWhole s anchorsChecks (whole (anchors .read) s) (Stop 1)
-      anchors-left y h = whole-left anchorsChecks (anchors .read) s l all-found y h
-
-      pub anchors-read : {next fault : ℕ} → w ≡ At next fault → length s ≤ next → JudgedWhole s anchorsChecks (whole (anchors .read) s) (At next fault)
-      anchors-read y h = whole-read anchorsChecks (anchors .read) s l all-found y h
-
-pub ruleset judged-exits = (whole-large, no-anchors, anchors-place, anchors-stop, anchors-left, anchors-read)
+pub ruleset front-exits = (no-anchors, anchors-place, all-anchors)

@@ -8,10 +8,10 @@ use mathlib.Core.Path.{_≡_, refl, sym, ap, _∙_}
 use mathlib.Core.Bool.{Bool, true, false, not, _||_}
 use mathlib.Core.List.{List, [], _∷_, _++_, map}
 use mathlib.Core.List.{map-append}
-use lib.ListN.{length, getD, take, drop, set, length-set, drop-of-length-le}
-use lib.Seq.{drop-cons, slice, slice-cons, slice-empty, take-suc-set}
+use lib.ListN.{length, getD, take, drop, set, length-set}
+use lib.Seq.{slice, slice-cons, slice-empty, take-suc-set}
 use lib.Dec.{eqb, leb}
-use borrow.Author.Tests.{le-leb, lt-leb, leb-true, eq-eqb, ne-eqb}
+use borrow.Author.Tests.{leb-true, eq-eqb, ne-eqb}
 use Rattle.base.specs.Outcome.{Outcome, answer, check}
 use Rattle.base.specs.Outcome as outcome
 use Rattle.key.specs.Order.{atMost}
@@ -20,7 +20,6 @@ use Rattle.comparable_range.specs.declared.Kind.the-variants.{Unbounded}
 use Rattle.format.specs.Got.{Got, got, stop, andThen}
 use Rattle.format.specs.Number.{readNumber}
 use Rattle.format.specs.Range.{boundIn, BoundInside}
-use Rattle.format.specs.Whole.{whole, ended}
 use Rattle.format.specs.declared.range.BoundSpan.{BoundSpan}
 use Rattle.records.specs.Form.{readMany, taken}
 use Rattle.records.specs.Values.{View, Run}
@@ -38,7 +37,7 @@ use Rattle.records.proofs.HeadExits.{runOf, run-is, image-is}
 use Rattle.manifest.specs.Ranges.{effective}
 use Rattle.manifest.specs.Checks.{Checks, imageChecks, starts, has}
 use Rattle.manifest.specs.Faults.{faultOf, least, ordered, viewChecks, viewsChecks, lastOf}
-use Rattle.manifest.specs.Spans.{EffectiveFound, faults, judged, JudgedFound, outcomeFault, JudgedWhole}
+use Rattle.manifest.specs.Spans.{EffectiveFound, faults, judged, JudgedFound}
 use Rattle.manifest.specs.declared.ranges.RangeSpan.{RangeSpan}
 use Rattle.manifest.specs.declared.images.Judged.{Judged}
 use Rattle.manifest.specs.declared.images.Judged.the-variants.{At, Stop}
@@ -233,7 +232,7 @@ module _ {s : List ℕ} {from n : ℕ} {ids : List ℕ} {k at fault : ℕ} (p : 
 
 pub ruleset runs-exits = (runs-begin, runs-at, ids-in, id-place, runs-end, head-stop, views-from, run-stop, runs-onward)
 
--- ---- image_judged
+-- ---- image_front
 counted-within : (most : ℕ) (t : Bool) (w n : ℕ) (l r : List ℕ) → t ≡ leb w most → got n r ≡ taken (check 3 t (answer w)) l → n ≤ most
 counted-within most true w n l r e h = let z : n ≡ w = cc in rw z (leb-true w most (sym e))
 counted-within most false w n l r e h = absurd (let z : _≡_ {A = ℕ} 0 1 = cc in omega arith)
@@ -243,40 +242,14 @@ unfolding countOf
 count-within most (got w l) n r h = counted-within most (leb w most) w n l r refl h
 count-within most (stop k) n r h = absurd (let z : _≡_ {A = ℕ} 0 1 = cc in omega arith)
 
-module _ (s : List ℕ) where
-  pub image-large : 65536 < length s → JudgedWhole s imageChecks (whole (image .read) s) (Stop 3)
-  unfolding whole
-  image-large h = record { meaning = rw (lt-leb (length s) 65536 h); inside = tt }
+module _ (s : List ℕ) {r : CountRead} (f : CountFound s (upTo 1 64 .read (drop 0 s)) r) where
+  pub no-runs : {k : ℕ} → r ≡ CountStop k → JudgedFound s (faults imageChecks (image .read s)) (Stop k)
+  no-runs q = record { meaning = rw (image-is s, ← (f .meaning), q); inside = tt }
 
-  module _ (l : length s ≤ 65536) where
-    opened : whole (image .read) s ≡ ended (image .read s)
-    unfolding whole
-    opened = rw (le-leb (length s) 65536 l)
-
-    module _ {r : CountRead} (f : CountFound s (upTo 1 64 .read (drop 0 s)) r) where
-      pub no-runs : {k : ℕ} → r ≡ CountStop k → JudgedWhole s imageChecks (whole (image .read) s) (Stop k)
-      no-runs q = record { meaning = rw (opened, image-is s, ← (f .meaning), q); inside = tt }
-
-      module _ {n first : ℕ} (q : r ≡ CountAt n first) {w : Judged} (x : JudgedFound s (faults imageChecks (readMany (run .read) n (drop first s))) w) where
-        read : image .read s ≡ readMany (run .read) n (drop first s)
-        read = image-is s ∙ rw (← (f .meaning), q)
-
-        pub runs-stop : {k : ℕ} → w ≡ Stop k → JudgedWhole s imageChecks (whole (image .read) s) (Stop k)
-        runs-stop {k} y =
-            let e : readMany (run .read) n (drop first s) ≡ stop k = judge-stop imageChecks (readMany (run .read) n (drop first s)) k (sym (ap (judged s) y) ∙ x .meaning) in
-            record { meaning = rw (opened, read, e); inside = tt }
-
-        module _ {next fault : ℕ} (y : w ≡ At next fault) where
-          found : Judge imageChecks s (readMany (run .read) n (drop first s)) next fault
-          found = judge imageChecks s (readMany (run .read) n (drop first s)) next fault (sym (ap (judged s) y) ∙ x .meaning)
-
-          pub image-left : next < length s → JudgedWhole s imageChecks (whole (image .read) s) (Stop 1)
-          image-left h = record { meaning = rw (opened, read, found .is, drop-cons s next 0); inside = tt }
-
-          pub image-read : length s ≤ next → JudgedWhole s imageChecks (whole (image .read) s) (At next fault)
-          image-read h =
-              let e : whole (image .read) s ≡ answer (found .value) = opened ∙ ap ended (read ∙ found .is) ∙ rw (drop-of-length-le s {i = next} h) in
-              record { meaning = ap answer (found .fault-is) ∙ sym (ap (outcomeFault imageChecks) e); inside = rw y at (x .inside) }
+  pub all-runs : {n first : ℕ} {w : Judged} → r ≡ CountAt n first → JudgedFound s (faults imageChecks (readMany (run .read) n (drop first s))) w → JudgedFound s (faults imageChecks (image .read s)) w
+  all-runs {n} {first} q x =
+      let z : image .read s ≡ readMany (run .read) n (drop first s) = image-is s ∙ rw (← (f .meaning), q) in
+      record { meaning = x .meaning ∙ sym (ap (faults imageChecks) z); inside = x .inside }
 
 -- a count that was read is within its ceiling
 pub count-most : {s : List ℕ} {r : CountRead} {n first : ℕ} → CountFound s (upTo 1 64 .read (drop 0 s)) r → r ≡ CountAt n first → n ≤ 64
@@ -285,4 +258,4 @@ count-most {s} {r} {n} {first} f q = count-within 64 (readNumber 1 (drop 0 s)) n
 pub first-place : {s : List ℕ} {r : CountRead} {n first : ℕ} → CountFound s (upTo 1 64 .read (drop 0 s)) r → r ≡ CountAt n first → first ≤ length s
 first-place f q = rw q at (f .inside)
 
-pub ruleset image-exits = (image-large, no-runs, runs-stop, image-left, image-read, count-most, first-place)
+pub ruleset image-exits = (no-runs, all-runs, count-most, first-place)

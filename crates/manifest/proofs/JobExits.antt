@@ -2,17 +2,13 @@
 -- fail; and the exits of the job as a whole.
 -- Assumes nothing.
 use Prim.Native.Nat.{ℕ, _-_, _≤_, _<_}
-use mathlib.Core.Path.{_≡_, sym, ap, _∙_}
+use mathlib.Core.Path.{_≡_, refl, sym, ap, _∙_}
 use mathlib.Core.Bool.{Bool, true, false}
 use mathlib.Core.List.{List, [], _∷_, _++_}
-use lib.ListN.{length, drop, drop-of-length-le}
-use lib.Seq.{drop-cons}
-use borrow.Author.Tests.{le-leb, lt-leb}
-use Rattle.base.specs.Outcome.{answer}
+use lib.ListN.{length, drop}
 use Rattle.comparable_range.specs.Range.{Range, nonEmpty}
 use Rattle.format.specs.Got.{Got, got, stop, andThen}
 use Rattle.format.specs.Range.{rangeIn, BoundInside}
-use Rattle.format.specs.Whole.{whole, ended}
 use Rattle.format.specs.declared.range.BoundSpan.{BoundSpan}
 use Rattle.records.specs.Form.{readMany}
 use Rattle.records.specs.Values.{Table, Part}
@@ -29,11 +25,11 @@ use Rattle.records.proofs.Many.{Reading, begin, stopped, onward, all-read}
 use Rattle.records.proofs.PartExits.{jobOf, part-is, job-is}
 use Rattle.manifest.specs.Checks.{Checks, keysInOrder, sizePasses, jobChecks}
 use Rattle.manifest.specs.Faults.{faultOf, least, tableChecks, tablesChecks, partsChecks, planned}
-use Rattle.manifest.specs.Spans.{sizeFits, faults, judged, JudgedFound, outcomeFault, JudgedWhole}
+use Rattle.manifest.specs.Spans.{sizeFits, faults, judged, JudgedFound}
 use Rattle.manifest.specs.declared.images.Judged.{Judged}
 use Rattle.manifest.specs.declared.images.Judged.the-variants.{At, Stop}
 use Rattle.manifest.proofs.Steps.{tables-none, tables-more, parts-none, parts-more, job-parts}
-use Rattle.manifest.proofs.ImageExits.{Judge, judge, judge-stop}
+use Rattle.manifest.proofs.ImageExits.{judge, judge-stop}
 
 -- ---- table_fault
 module _ (s : List ℕ) (t : TableSpan) {a : Bool} (ha : a ≡ keysInOrder (tableIn s t)) where
@@ -167,43 +163,22 @@ module _ {s : List ℕ} {from n left at fault : ℕ} (p : Seen (part .read) part
 
 pub ruleset parts-exits = (seen-at, seen-end, parts-begin, head-stop, start-inside, end-inside, outputs-from, part-stop, parts-onward)
 
--- ---- job_judged
-module _ (s : List ℕ) where
-  pub job-large : 65536 < length s → JudgedWhole s jobChecks (whole (job .read) s) (Stop 3)
-  unfolding whole
-  job-large h = record { meaning = rw (lt-leb (length s) 65536 h); inside = tt }
+-- ---- job_front
+same-faults : (d : ℕ) (ids : List ℕ) (g : Got (List Part)) → faults partsChecks g ≡ faults jobChecks (andThen g (λ ps z. got (jobOf d ids ps) z))
+same-faults d ids (got ps z) = ap (λ c. got (faultOf c) z) (sym (job-parts (jobOf d ids ps)))
+same-faults d ids (stop k) = refl
 
-  module _ (l : length s ≤ 65536) {r : JobRead} (f : JobFound s (jobHead .read s) r) where
-    opened : whole (job .read) s ≡ ended (job .read s)
-    unfolding whole
-    opened = rw (le-leb (length s) 65536 l)
+module _ (s : List ℕ) {r : JobRead} (f : JobFound s (jobHead .read s) r) where
+  pub no-job : {k : ℕ} → r ≡ JobStop k → JudgedFound s (faults jobChecks (job .read s)) (Stop k)
+  no-job q = record { meaning = rw (job-is s, ← (f .meaning), q); inside = tt }
 
-    pub no-job : {k : ℕ} → r ≡ JobStop k → JudgedWhole s jobChecks (whole (job .read) s) (Stop k)
-    no-job q = record { meaning = rw (opened, job-is s, ← (f .meaning), q); inside = tt }
+  module _ {d c from n first : ℕ} (q : r ≡ JobAt d c from n first) where
+    pub parts-from : first ≤ length s
+    parts-from = (rw q at (f .inside)) .1
 
-    module _ {d c from n first : ℕ} (q : r ≡ JobAt d c from n first) {w : Judged} (x : JudgedFound s (faults partsChecks (readMany (part .read) n (drop first s))) w) where
-      read : job .read s ≡ andThen (readMany (part .read) n (drop first s)) (λ ps z. got (jobOf d (idsIn c (drop from s)) ps) z)
-      read = job-is s ∙ rw (← (f .meaning), q)
+    pub all-parts : {w : Judged} → JudgedFound s (faults partsChecks (readMany (part .read) n (drop first s))) w → JudgedFound s (faults jobChecks (job .read s)) w
+    all-parts x =
+        let e : job .read s ≡ andThen (readMany (part .read) n (drop first s)) (λ ps z. got (jobOf d (idsIn c (drop from s)) ps) z) = job-is s ∙ rw (← (f .meaning), q) in
+        record { meaning = x .meaning ∙ same-faults d (idsIn c (drop from s)) (readMany (part .read) n (drop first s)) ∙ sym (ap (faults jobChecks) e); inside = x .inside }
 
-      pub parts-stop : {k : ℕ} → w ≡ Stop k → JudgedWhole s jobChecks (whole (job .read) s) (Stop k)
-      parts-stop {k} y =
-          let e : readMany (part .read) n (drop first s) ≡ stop k = judge-stop partsChecks (readMany (part .read) n (drop first s)) k (sym (ap (judged s) y) ∙ x .meaning) in
-          record { meaning = rw (opened, read, e); inside = tt }
-
-      module _ {next fault : ℕ} (y : w ≡ At next fault) where
-        found : Judge partsChecks s (readMany (part .read) n (drop first s)) next fault
-        found = judge partsChecks s (readMany (part .read) n (drop first s)) next fault (sym (ap (judged s) y) ∙ x .meaning)
-
-        pub job-left : next < length s → JudgedWhole s jobChecks (whole (job .read) s) (Stop 1)
-        job-left h = record { meaning = rw (opened, read, found .is, drop-cons s next 0); inside = tt }
-
-        pub job-read : length s ≤ next → JudgedWhole s jobChecks (whole (job .read) s) (At next fault)
-        job-read h =
-            let j = jobOf d (idsIn c (drop from s)) (found .value) in
-            let e : whole (job .read) s ≡ answer j = opened ∙ ap ended read ∙ rw (found .is, drop-of-length-le s {i = next} h) in
-            record { meaning = ap answer (found .fault-is ∙ ap faultOf (sym (job-parts j))) ∙ sym (ap (outcomeFault jobChecks) e); inside = rw y at (x .inside) }
-
-pub parts-from : {s : List ℕ} {r : JobRead} {d c from n first : ℕ} → JobFound s (jobHead .read s) r → r ≡ JobAt d c from n first → first ≤ length s
-parts-from f q = (rw q at (f .inside)) .1
-
-pub ruleset job-exits = (job-large, no-job, parts-stop, job-left, job-read, parts-from)
+pub ruleset job-exits = (no-job, parts-from, all-parts)

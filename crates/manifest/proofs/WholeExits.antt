@@ -1,45 +1,71 @@
 -- A buffer that is read whole, whatever reads it: its length before its fields, and no byte left after the last.
 -- Assumes nothing.
 use Prim.Native.Nat.{ℕ, _≤_, _<_}
-use mathlib.Core.Path.{_≡_, sym, ap, _∙_}
+use mathlib.Core.Path.{_≡_, refl, sym, ap, _∙_}
 use mathlib.Core.List.{List}
 use lib.ListN.{length, drop, drop-of-length-le}
 use lib.Seq.{drop-cons}
-use borrow.Author.Tests.{le-leb, lt-leb}
+use borrow.Author.Tests.{le-leb, lt-leb, lt-ltb, le-ltb, ltb-true, ltb-false}
+use lib.Dec.{ltb}
+use mathlib.Core.Bool.{Bool, true, false}
+use Rattle.base.specs.Pick.{pick}
 use Rattle.base.specs.Outcome.{answer}
-use Rattle.format.specs.Got.{Got, stop}
+use Rattle.format.specs.Got.{Got, got, stop}
 use Rattle.format.specs.Whole.{whole, ended}
 use Rattle.manifest.specs.Checks.{Checks}
-use Rattle.manifest.specs.Spans.{faults, judged, JudgedFound, outcomeFault, JudgedWhole}
+use Rattle.manifest.specs.Spans.{faults, JudgedFound, outcomeFault, JudgedWhole, endedBy}
 use Rattle.manifest.specs.declared.images.Judged.{Judged}
 use Rattle.manifest.specs.declared.images.Judged.the-variants.{At, Stop}
 use Rattle.manifest.proofs.ImageExits.{Judge, judge, judge-stop}
 
+-- ---- ended
+module _ (n : ℕ) {r : Judged} where
+  pub ended-stop : {k : ℕ} → r ≡ Stop k → Stop k ≡ endedBy n r
+  ended-stop q = rw q
+
+  pub ended-left : {next fault : ℕ} → r ≡ At next fault → next < n → Stop 1 ≡ endedBy n r
+  ended-left {next} q h = rw (q, lt-ltb next n h)
+
+  pub ended-all : {next fault : ℕ} → r ≡ At next fault → n ≤ next → At next fault ≡ endedBy n r
+  ended-all {next} q h = rw (q, le-ltb next n h)
+
+pub ruleset ended-exits = (ended-stop, ended-left, ended-all)
+
+-- ---- the whole of a buffer
 module _ {A : Type 0} (checks : A → Checks) (read : List ℕ → Got A) (s : List ℕ) where
   pub whole-large : 65536 < length s → JudgedWhole s checks (whole read s) (Stop 3)
   unfolding whole
   whole-large h = record { meaning = rw (lt-leb (length s) 65536 h); inside = tt }
 
-  module _ (l : length s ≤ 65536) {w : Judged} (x : JudgedFound s (faults checks (read (drop 0 s))) w) where
+  module _ (l : length s ≤ 65536) where
     opened : whole read s ≡ ended (read s)
     unfolding whole
     opened = rw (le-leb (length s) 65536 l)
 
-    pub whole-stop : {k : ℕ} → w ≡ Stop k → JudgedWhole s checks (whole read s) (Stop k)
-    whole-stop {k} y =
-        let e : read s ≡ stop k = judge-stop checks (read s) k (sym (ap (judged s) y) ∙ x .meaning) in
-        record { meaning = rw (opened, e); inside = tt }
+    stops : (k : ℕ) → stop k ≡ faults checks (read s) → JudgedWhole s checks (whole read s) (Stop k)
+    stops k e = let z : read s ≡ stop k = judge-stop checks (read s) k e in record { meaning = rw (opened, z); inside = tt }
 
-    module _ {next fault : ℕ} (y : w ≡ At next fault) where
+    module _ (next fault : ℕ) (e : got fault (drop next s) ≡ faults checks (read s)) where
       found : Judge checks s (read s) next fault
-      found = judge checks s (read s) next fault (sym (ap (judged s) y) ∙ x .meaning)
+      found = judge checks s (read s) next fault e
 
-      pub whole-left : next < length s → JudgedWhole s checks (whole read s) (Stop 1)
-      whole-left h = record { meaning = rw (opened, found .is, drop-cons s next 0); inside = tt }
+      left-over : next < length s → JudgedWhole s checks (whole read s) (Stop 1)
+      left-over h = record { meaning = rw (opened, found .is, drop-cons s next 0); inside = tt }
 
-      pub whole-read : length s ≤ next → JudgedWhole s checks (whole read s) (At next fault)
-      whole-read h =
+      all-of-it : length s ≤ next → next ≤ length s → JudgedWhole s checks (whole read s) (At next fault)
+      all-of-it h w =
           let e : whole read s ≡ answer (found .value) = opened ∙ ap ended (found .is) ∙ rw (drop-of-length-le s {i = next} h) in
-          record { meaning = ap answer (found .fault-is) ∙ sym (ap (outcomeFault checks) e); inside = rw y at (x .inside) }
+          record { meaning = ap answer (found .fault-is) ∙ sym (ap (outcomeFault checks) e); inside = w }
 
-pub ruleset whole-exits = (whole-large, whole-stop, whole-left, whole-read)
+      by-rest : (t : Bool) → ltb next (length s) ≡ t → next ≤ length s → JudgedWhole s checks (whole read s) (pick t (Stop 1) (At next fault))
+      by-rest true q w = left-over (ltb-true next (length s) q)
+      by-rest false q w = all-of-it (ltb-false next (length s) q) w
+
+    by-cases : (w : Judged) → JudgedFound s (faults checks (read s)) w → JudgedWhole s checks (whole read s) (endedBy (length s) w)
+    by-cases (Stop k) x = stops k (x .meaning)
+    by-cases (At next fault) x = by-rest next fault (x .meaning) (ltb next (length s)) refl (x .inside)
+
+    pub whole-ended : {w z : Judged} → JudgedFound s (faults checks (read s)) w → z ≡ endedBy (length s) w → JudgedWhole s checks (whole read s) z
+    whole-ended {w} x e = rw e (by-cases w x)
+
+pub ruleset whole-exits = (whole-large, whole-ended)

@@ -4,7 +4,7 @@ use mathlib.Core.Path.{_≡_}
 use mathlib.Core.Bool.{Bool, true, false}
 use mathlib.Core.List.{List}
 use lib.ListN.{length, drop}
-use lib.Dec.{leb}
+use lib.Dec.{leb, ltb}
 use Rattle.base.specs.Pick.{pick}
 use Rattle.base.specs.Outcome.{Outcome, answer}
 use Rattle.base.specs.Outcome as outcome
@@ -81,3 +81,8 @@ judgedWhole (Stop k) = outcome.stop k
 pub record JudgedWhole {A : Type 0} (s : List ℕ) (checks : A → Checks) (o : Outcome A) (r : Judged) : Type 0 where
   pub meaning : judgedWhole r ≡ outcomeFault checks o
   pub inside : JudgedInside s r
+
+-- a reading from the front, of a buffer of n bytes: bytes that remain are stop 1
+abbrev pub endedBy : ℕ → Judged → Judged
+endedBy n (At next fault) = pick (ltb next n) (Stop 1) (At next fault)
+endedBy n (Stop k) = Stop k

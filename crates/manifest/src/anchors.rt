@@ -1,5 +1,6 @@
 // Anchors read whole, with check 7: their bytes total less than 2^63.
 use crate::images::Judged;
+use crate::images::ended;
 use records::AnchorRead;
 use records::CountRead;
 ghost use mathlib.Core.Path.{_≡_};
@@ -57,6 +58,16 @@ fn anchors_from(s: &[u8], from: usize, n: usize) -> Judged
     Judged::At { next: at, fault: 7 }
 }
 
+// The anchors at the front of a buffer.
+fn anchors_front(s: &[u8]) -> Judged
+    ensures { λ r. ⌜ JudgedFound (now (s .entry)) (faults anchorsChecks (anchors .read (now (s .entry)))) r ⌝ }
+{
+    match records::count_at(s, 0, 2, 4096) {
+        CountRead::Stop(k) => Judged::Stop(k),
+        CountRead::At(n, first) => anchors_from(s, first, n),
+    }
+}
+
 // The anchors that are the whole of a buffer.
 pub fn anchors_judged(s: &[u8]) -> Judged
     ensures { λ r. ⌜ JudgedWhole (now (s .entry)) anchorsChecks (whole (anchors .read) (now (s .entry))) r ⌝ }
@@ -64,16 +75,5 @@ pub fn anchors_judged(s: &[u8]) -> Judged
     if 65536 < s.len() {
         return Judged::Stop(3);
     }
-    match records::count_at(s, 0, 2, 4096) {
-        CountRead::Stop(k) => Judged::Stop(k),
-        CountRead::At(n, first) => match anchors_from(s, first, n) {
-            Judged::Stop(k) => Judged::Stop(k),
-            Judged::At { next, fault } => {
-                if next < s.len() {
-                    return Judged::Stop(1);
-                }
-                Judged::At { next, fault }
-            }
-        },
-    }
+    ended(s, anchors_front(s))
 }

@@ -17,7 +17,7 @@ ghost use Rattle.records.specs.Layouts.{view, run, image};
 ghost use Rattle.format.specs.Whole.{whole};
 ghost use Rattle.manifest.specs.Checks.{imageChecks, has};
 ghost use Rattle.manifest.specs.Faults.{faultOf, ordered, viewsChecks};
-ghost use Rattle.manifest.specs.Spans.{JudgedFound, faults, JudgedWhole};
+ghost use Rattle.manifest.specs.Spans.{JudgedFound, faults, JudgedWhole, endedBy};
 
 // The place past what was read, with the number of the first of the checks 4 to 7 that fails, or 8; or a stop.
 pub enum Judged {
@@ -107,6 +107,31 @@ fn runs_judged(s: &[u8], from: usize, n: usize) -> Judged
     Judged::At { next: at, fault }
 }
 
+// What a reading from the front of a buffer says of the whole buffer: bytes that remain are stop 1.
+pub fn ended(s: &[u8], r: Judged) -> Judged
+    ensures { λ w. ⌜ w ≡ endedBy (length (now (s .entry))) r ⌝ }
+{
+    match r {
+        Judged::Stop(k) => Judged::Stop(k),
+        Judged::At { next, fault } => {
+            if next < s.len() {
+                return Judged::Stop(1);
+            }
+            Judged::At { next, fault }
+        }
+    }
+}
+
+// The image at the front of a buffer.
+fn image_front(s: &[u8]) -> Judged
+    ensures { λ r. ⌜ JudgedFound (now (s .entry)) (faults imageChecks (image .read (now (s .entry)))) r ⌝ }
+{
+    match records::count_at(s, 0, 1, 64) {
+        CountRead::Stop(k) => Judged::Stop(k),
+        CountRead::At(n, first) => runs_judged(s, first, n),
+    }
+}
+
 // The image that is the whole of a buffer.
 pub fn image_judged(s: &[u8]) -> Judged
     ensures { λ r. ⌜ JudgedWhole (now (s .entry)) imageChecks (whole (image .read) (now (s .entry))) r ⌝ }
@@ -114,16 +139,5 @@ pub fn image_judged(s: &[u8]) -> Judged
     if 65536 < s.len() {
         return Judged::Stop(3);
     }
-    match records::count_at(s, 0, 1, 64) {
-        CountRead::Stop(k) => Judged::Stop(k),
-        CountRead::At(n, first) => match runs_judged(s, first, n) {
-            Judged::Stop(k) => Judged::Stop(k),
-            Judged::At { next, fault } => {
-                if next < s.len() {
-                    return Judged::Stop(1);
-                }
-                Judged::At { next, fault }
-            }
-        },
-    }
+    ended(s, image_front(s))
 }

@@ -2,6 +2,7 @@
 use crate::checks::lesser;
 use crate::checks::order_fault;
 use crate::images::Judged;
+use crate::images::ended;
 use comparable_range::Kind;
 use format::BoundSpan;
 use records::BlockRead;
@@ -71,13 +72,5 @@ pub fn index_judged(s: &[u8]) -> Judged
     if 65536 < s.len() {
         return Judged::Stop(3);
     }
-    match index_at(s, 0) {
-        Judged::Stop(k) => Judged::Stop(k),
-        Judged::At { next, fault } => {
-            if next < s.len() {
-                return Judged::Stop(1);
-            }
-            Judged::At { next, fault }
-        }
-    }
+    ended(s, index_at(s, 0))
 }

@@ -3,6 +3,7 @@ use crate::checks::keys_in_order;
 use crate::checks::lesser;
 use crate::checks::size_passes;
 use crate::images::Judged;
+use crate::images::ended;
 use format::BoundSpan;
 use records::JobRead;
 use records::PartRead;
@@ -106,13 +107,10 @@ fn parts_judged(s: &[u8], from: usize, n: usize) -> Judged
     Judged::At { next: at, fault }
 }
 
-// The job that is the whole of a buffer.
-pub fn job_judged(s: &[u8]) -> Judged
-    ensures { λ r. ⌜ JudgedWhole (now (s .entry)) jobChecks (whole (job .read) (now (s .entry))) r ⌝ }
+// The job at the front of a buffer.
+fn job_front(s: &[u8]) -> Judged
+    ensures { λ r. ⌜ JudgedFound (now (s .entry)) (faults jobChecks (job .read (now (s .entry)))) r ⌝ }
 {
-    if 65536 < s.len() {
-        return Judged::Stop(3);
-    }
     match records::job_head(s) {
         JobRead::Stop(k) => Judged::Stop(k),
         JobRead::At {
@@ -120,15 +118,17 @@ pub fn job_judged(s: &[u8]) -> Judged
             sources: _,
             from: _,
             parts,
-            next: first,
-        } => match parts_judged(s, first, parts) {
-            Judged::Stop(k) => Judged::Stop(k),
-            Judged::At { next, fault } => {
-                if next < s.len() {
-                    return Judged::Stop(1);
-                }
-                Judged::At { next, fault }
-            }
-        },
+            next,
+        } => parts_judged(s, next, parts),
     }
+}
+
+// The job that is the whole of a buffer.
+pub fn job_judged(s: &[u8]) -> Judged
+    ensures { λ r. ⌜ JudgedWhole (now (s .entry)) jobChecks (whole (job .read) (now (s .entry))) r ⌝ }
+{
+    if 65536 < s.len() {
+        return Judged::Stop(3);
+    }
+    ended(s, job_front(s))
 }

@@ -7,6 +7,7 @@ pub mod TableExits
 pub mod ViewExits
 pub mod HeadExits
 pub mod There
+pub mod Walk
 pub mod PartExits
 pub mod BlockExits
 pub mod Examples

@@ -1,16 +1,17 @@
 -- `db_state::runs_end` meets its contract.
 -- Assumes nothing.
-use Rattle.db_state.proofs.PlaceExits.{run-walk, Walking}
+use Rattle.db_state.proofs.PlaceExits.{run-walk, Walked}
+use Prim.Native.Nat.{_-_}
 use Rattle.records.specs.Layouts.{run}
 use borrow.Author.Needs.{needs}
 use Rattle.db_state.proofs.runs_end.Statement.{statement}
 use Rattle.db_state.proofs.runs_end.Tie as tie
 
 abbrev Inv-loop : tie.InvT-loop
-Inv-loop s from n left₀ at₀ left at = Walking (run .read) s from n left at
+Inv-loop s from n seen₀ at₀ seen at = Walked (run .read) s from n seen at
 
 abbrev μ-loop : tie.MeasureT-loop
-μ-loop s from n left₀ at₀ left at = left
+μ-loop s from n seen₀ at₀ seen at = n - seen
 
 loop-holds : tie.Need-loop-holds Inv-loop μ-loop
 loop-holds c = search (needs, run-walk)
@@ -30,8 +31,8 @@ enum-known-views c = search (needs, run-walk)
 views-end-requires : tie.Need-views-end-requires Inv-loop μ-loop
 views-end-requires c κs = search (needs, run-walk)
 
-sub-left : tie.Need-sub-left Inv-loop μ-loop
-sub-left c = search (needs, run-walk)
+add-seen : tie.Need-add-seen Inv-loop μ-loop
+add-seen c = search (needs, run-walk)
 
 loop-less : tie.Need-loop-less Inv-loop μ-loop
 loop-less c = search (needs, run-walk)
@@ -54,7 +55,7 @@ runs-end-spec =
     returns
     enum-known-views
     views-end-requires
-    sub-left
+    add-seen
     loop-less
     loop-again
     returns-2)

@@ -1,16 +1,17 @@
 -- `db_state::views_end` meets its contract.
 -- Assumes nothing.
-use Rattle.db_state.proofs.PlaceExits.{view-walk, Walking}
+use Rattle.db_state.proofs.PlaceExits.{view-walk, Walked}
+use Prim.Native.Nat.{_-_}
 use Rattle.records.specs.Layouts.{view}
 use borrow.Author.Needs.{needs}
 use Rattle.db_state.proofs.views_end.Statement.{statement}
 use Rattle.db_state.proofs.views_end.Tie as tie
 
 abbrev Inv-loop : tie.InvT-loop
-Inv-loop s from n left₀ at₀ left at = Walking (view .read) s from n left at
+Inv-loop s from n seen₀ at₀ seen at = Walked (view .read) s from n seen at
 
 abbrev μ-loop : tie.MeasureT-loop
-μ-loop s from n left₀ at₀ left at = left
+μ-loop s from n seen₀ at₀ seen at = n - seen
 
 loop-holds : tie.Need-loop-holds Inv-loop μ-loop
 loop-holds c = search (needs, view-walk)
@@ -27,8 +28,8 @@ returns c = search (needs, view-walk)
 enum-known-next : tie.Need-enum-known-next Inv-loop μ-loop
 enum-known-next c = search (needs, view-walk)
 
-sub-left : tie.Need-sub-left Inv-loop μ-loop
-sub-left c = search (needs, view-walk)
+add-seen : tie.Need-add-seen Inv-loop μ-loop
+add-seen c = search (needs, view-walk)
 
 loop-less : tie.Need-loop-less Inv-loop μ-loop
 loop-less c = search (needs, view-walk)
@@ -50,7 +51,7 @@ views-end-spec =
     enum-told
     returns
     enum-known-next
-    sub-left
+    add-seen
     loop-less
     loop-again
     returns-2)

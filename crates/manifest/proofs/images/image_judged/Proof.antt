@@ -1,55 +1,21 @@
 -- `manifest::image_judged` meets its contract.
 -- Assumes nothing.
-use Rattle.manifest.proofs.ImageExits.{image-exits}
+use Rattle.manifest.proofs.WholeExits.{whole-exits}
 use borrow.Author.Needs.{needs}
 use Rattle.manifest.proofs.images.image_judged.Statement.{statement}
 use Rattle.manifest.proofs.images.image_judged.Tie as tie
 
 returns : tie.Need-returns
-returns c = search (needs, image-exits)
+returns c = search (needs, whole-exits)
 
-count-at-requires : tie.Need-count-at-requires
-count-at-requires c κs = search (needs, image-exits)
+image-front-requires : tie.Need-image-front-requires
+image-front-requires c κs = search (needs, whole-exits)
 
-enum-known-k : tie.Need-enum-known-k
-enum-known-k c = search (needs, image-exits)
-
-enum-known-n : tie.Need-enum-known-n
-enum-known-n c = search (needs, image-exits)
-
-runs-judged-requires : tie.Need-runs-judged-requires
-runs-judged-requires c κs = search (needs, image-exits)
-
-enum-known-k-2 : tie.Need-enum-known-k-2
-enum-known-k-2 c = search (needs, image-exits)
-
-enum-known-next : tie.Need-enum-known-next
-enum-known-next c = search (needs, image-exits)
+ended-requires : tie.Need-ended-requires
+ended-requires c κs = search (needs, whole-exits)
 
 returns-2 : tie.Need-returns-2
-returns-2 c = search (needs, image-exits)
-
-returns-3 : tie.Need-returns-3
-returns-3 c = search (needs, image-exits)
-
-returns-4 : tie.Need-returns-4
-returns-4 c = search (needs, image-exits)
-
-returns-5 : tie.Need-returns-5
-returns-5 c = search (needs, image-exits)
+returns-2 c = search (needs, whole-exits)
 
 pub image-judged-spec : {M : Type 1} → statement M
-image-judged-spec =
-    tie.close
-    (tie.spec
-    returns
-    count-at-requires
-    enum-known-k
-    enum-known-n
-    runs-judged-requires
-    enum-known-k-2
-    enum-known-next
-    returns-2
-    returns-3
-    returns-4
-    returns-5)
+image-judged-spec = tie.close (tie.spec returns image-front-requires ended-requires returns-2)

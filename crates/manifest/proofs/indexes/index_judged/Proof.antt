@@ -11,22 +11,11 @@ returns c = search (needs, whole-exits)
 index-at-requires : tie.Need-index-at-requires
 index-at-requires c κs = search (needs, whole-exits)
 
-enum-known-k : tie.Need-enum-known-k
-enum-known-k c = search (needs, whole-exits)
-
-enum-known-next : tie.Need-enum-known-next
-enum-known-next c = search (needs, whole-exits)
+ended-requires : tie.Need-ended-requires
+ended-requires c κs = search (needs, whole-exits)
 
 returns-2 : tie.Need-returns-2
 returns-2 c = search (needs, whole-exits)
 
-returns-3 : tie.Need-returns-3
-returns-3 c = search (needs, whole-exits)
-
-returns-4 : tie.Need-returns-4
-returns-4 c = search (needs, whole-exits)
-
 pub index-judged-spec : {M : Type 1} → statement M
-index-judged-spec =
-    tie.close
-    (tie.spec returns index-at-requires enum-known-k enum-known-next returns-2 returns-3 returns-4)
+index-judged-spec = tie.close (tie.spec returns index-at-requires ended-requires returns-2)
