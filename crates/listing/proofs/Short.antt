@@ -2,6 +2,7 @@
 -- Assumes nothing.
 use Prim.Native.Nat.{ℕ, suc, _+_, _*_, _≤_}
 use native.Mathlib.Omega.{arith}
+use mathlib.Core.Path.{ap}
 use mathlib.Core.Option.{Option, none, some}
 use mathlib.Core.List.{List, [], _∷_}
 use lib.ListN.{length, length-append}
@@ -16,8 +17,9 @@ use Rattle.records.specs.Values.{View, Run}
 use Rattle.records.specs.Form.{key, range, writeIf, writeMany}
 use Rattle.records.specs.Layouts.{table, view, run, image}
 use Rattle.manifest.specs.Ranges.{lastBound, own, cutBy, effective}
+use Rattle.manifest.proofs.ImageLaws.{only-writings-are-images, images-are-small}
 use Rattle.listing.specs.Listing.{startText, endText, line, lines, runLines, listing}
-use Rattle.listing.specs.Laws.{ListingIsShort}
+use Rattle.listing.specs.Laws.{ListingIsShort, ListingFits}
 use Rattle.listing.proofs.Lengths.{decimal-most, line-length}
 
 -- ---- bounds
@@ -88,3 +90,7 @@ run-lines-short (r ∷ rs) = simp length-append (omega (arith, lines-short (r .i
 pub listing-is-short : ListingIsShort
 unfolding listing image
 listing-is-short i = simp length-append (omega (arith, run-lines-short i))
+
+pub listing-fits : ListingFits
+listing-fits l i b e =
+    omega (arith, listing-is-short i, images-are-small l i e, ap length (only-writings-are-images l i b e))

@@ -18,7 +18,7 @@ use Rattle.records.specs.Layouts.{image}
 use Rattle.records.proofs.RecordLayouts.{image-layout}
 use Rattle.manifest.specs.Ranges.{own, effective}
 use Rattle.manifest.specs.Checks.{Checks, checked, imageChecks, imageGiven, tablePasses, keysInOrder, meetsOwn, isExcluded}
-use Rattle.manifest.specs.Laws.{EffectiveIsTheIntersection, EffectiveIsOwn, OnlyWritingsAreImages, WrittenImagesAreRead}
+use Rattle.manifest.specs.Laws.{EffectiveIsTheIntersection, EffectiveIsOwn, OnlyWritingsAreImages, ImagesAreSmall, WrittenImagesAreRead}
 use Rattle.manifest.proofs.Given.{whole-read}
 
 -- ---- effective ranges
@@ -56,6 +56,10 @@ unfolding imageGiven
 only-writings-are-images l i b e =
     let w = whole-read (image .read) l i (was-read (whole (image .read) l) i e) in
     image-layout .only l i [] b (w .all) .bytes ∙ append-nil (image .write i)
+
+pub images-are-small : ImagesAreSmall
+unfolding imageGiven
+images-are-small l i e = whole-read (image .read) l i (was-read (whole (image .read) l) i e) .small
 
 pub written-images-are-read : WrittenImagesAreRead
 unfolding imageGiven whole

@@ -52,6 +52,10 @@ EffectiveIsOwn = (v : View) → v .visible ≡ none → effective v ≡ own (v .
 abbrev pub OnlyWritingsAreImages : Type 0
 OnlyWritingsAreImages = (l : List ℕ) (i : Image) → Bytes l → imageGiven l ≡ answer i → l ≡ image .write i
 
+-- and at most 65,536
+abbrev pub ImagesAreSmall : Type 0
+ImagesAreSmall = (l : List ℕ) (i : Image) → imageGiven l ≡ answer i → length l ≤ 65536
+
 -- the writing of a value within the ceilings is accepted as that value, unless a check from 4 to 7 refuses it
 abbrev pub WrittenImagesAreRead : Type 0
 WrittenImagesAreRead =
