@@ -1,15 +1,15 @@
 // The calls of bilqarush, each made with a record's arguments and held to its answer.
-use crate::answer;
-use crate::answer::Place;
-use base::Written;
 use bilqarush::Compared;
 use bilqarush::Joined;
 use bilqarush::Point;
 use bilqarush::Tested;
 use bytes_range::span::Supplied;
-use comparable_range::Kind;
 use comparable_range::Side;
 use format::BoundSpan;
+use replay::answer;
+use replay::answer::Place;
+use replay::buffer;
+use replay::kind;
 ghost use Prim.Native.Nat.{_≤_};
 
 // What a record's head has beside the lengths.
@@ -20,9 +20,6 @@ pub struct Fields {
     pub z: u8,
     pub room: usize,
 }
-
-// A byte that says that a buffer's byte was not written.
-const UNWRITTEN: u8 = 165;
 
 // The order plus one. No other number is an order, and 255 is in no record.
 fn order_number(order: i8) -> u8 {
@@ -71,24 +68,6 @@ fn side_number(side: Side) -> u8 {
     }
 }
 
-fn kind_number(kind: Kind) -> u8
-    ensures { λ r. ⌜ r ≤ 2 ⌝ }
-{
-    match kind {
-        Kind::Unbounded => 0,
-        Kind::Included => 1,
-        Kind::Excluded => 2,
-    }
-}
-
-fn is_keyed(kind: Kind) -> bool {
-    match kind {
-        Kind::Unbounded => false,
-        Kind::Included => true,
-        Kind::Excluded => true,
-    }
-}
-
 fn supplied_side(x: Supplied) -> u8 {
     let side = x.side;
     side_number(side)
@@ -99,7 +78,7 @@ fn supplied_kind(x: Supplied) -> u8
 {
     let bound = x.bound;
     let kind = bound.kind;
-    kind_number(kind)
+    kind::number(kind)
 }
 
 // The head byte of a range, by document 01 and not by what the library writes.
@@ -121,7 +100,7 @@ fn range_front(answer: &[u8], start: Supplied, end: Supplied) -> Place {
 
 fn bound_in(answer: &[u8], place: Place, s: &[u8], bound: BoundSpan) -> Place {
     let kind = bound.kind;
-    if is_keyed(kind) {
+    if kind::is_keyed(kind) {
         return answer::key_image(answer, place, s, bound.at, bound.len);
     }
     place
@@ -152,7 +131,7 @@ fn joined_is(answer: &[u8], a: &[u8], b: &[u8], j: Joined) -> bool {
 
 fn key_in(key: &[u8], s: &[u8], bound: BoundSpan) -> bool {
     let kind = bound.kind;
-    if is_keyed(kind) {
+    if kind::is_keyed(kind) {
         return answer::is_end(key, answer::part(key, Place::At(0), s, bound.at, bound.len));
     }
     key.len() == 0
@@ -199,57 +178,16 @@ fn intersect<'a>(answer: &[u8], a: &'a [u8], b: &'a [u8]) -> bool {
     false
 }
 
-fn fill(out: &mut [u8]) {
-    let mut i = 0;
-    while i < out.len() {
-        out[i] = UNWRITTEN;
-        i += 1;
-    }
-}
-
-fn is_unwritten(out: &[u8], from: usize) -> bool {
-    let mut i = from;
-    while i < out.len() {
-        if out[i] != UNWRITTEN {
-            return false;
-        }
-        i += 1;
-    }
-    true
-}
-
-// Whether a buffer holds the answer at its front and is unwritten past it.
-fn buffer_is(answer: &[u8], out: &[u8], length: usize) -> bool {
-    let front = [0];
-    let place = answer::bytes(answer, Place::At(0), &front);
-    if answer::is_end(answer, answer::part(answer, place, out, 0, length)) {
-        return is_unwritten(out, length);
-    }
-    false
-}
-
-fn written_is(answer: &[u8], out: &[u8], w: Written) -> bool {
-    match w {
-        Written::Wrote(n) => buffer_is(answer, out, n),
-        Written::Stop(n) => {
-            if is_unwritten(out, 0) {
-                return answer::is_stop(answer, n);
-            }
-            false
-        }
-    }
-}
-
 fn from_prefix(answer: &[u8], prefix: &[u8], out: &mut [u8]) -> bool {
-    fill(out);
+    buffer::fill(out);
     let w = bilqarush::from_prefix(prefix, out);
-    written_is(answer, out, w)
+    buffer::written_is(answer, out, w)
 }
 
 fn from_prefix_and_subrange(answer: &[u8], prefix: &[u8], subrange: &[u8], out: &mut [u8]) -> bool {
-    fill(out);
+    buffer::fill(out);
     let w = bilqarush::from_prefix_and_subrange(prefix, subrange, out);
-    written_is(answer, out, w)
+    buffer::written_is(answer, out, w)
 }
 
 // The calls that write, in a buffer of just the record's room.

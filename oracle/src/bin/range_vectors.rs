@@ -2,15 +2,16 @@
 //! inputs, and the answers of the original functions (through the library) or the
 //! number of the check that stops the call. README.md has the record format.
 //!
-//! The checks are written here anew, from the papers alone. Every value comes from
-//! the originals.
+//! The checks are written anew, here and in the library's `vectors`, from the papers
+//! alone. Every value comes from the originals.
+use oracle::vectors::{
+    all_bounds, all_ranges, excluded, included, key_of, kind_of, order_class, pass,
+    range_image as image, small_keys, Chance, Checked, Family, Reader, BUFFER_CEILING, KEY_CEILING,
+};
 use oracle::{Bound, Giver, Key, Range, Traced};
 use std::cmp::Ordering;
 use std::collections::{HashMap, HashSet};
 use std::io::Write;
-
-const KEY_CEILING: usize = 1_024;
-const BUFFER_CEILING: usize = 65_536;
 
 const COMPARE_KEYS: u8 = 1;
 const CMP_BOUND: u8 = 2;
@@ -24,67 +25,10 @@ const CONTAINS: u8 = 9;
 
 // ---------------------------------------------------------------- checks
 
-/// The number of the check that stops the call.
-type Stop = u8;
-type Checked<T> = Result<T, Stop>;
-
-/// Reads a buffer field by field; each field is checked before the next is read.
-struct Reader<'a> {
-    rest: &'a [u8],
-}
-
-impl<'a> Reader<'a> {
-    fn new(buffer: &'a [u8]) -> Checked<Self> {
-        if buffer.len() > BUFFER_CEILING {
-            return Err(3);
-        }
-        Ok(Reader { rest: buffer })
-    }
-
-    fn take(&mut self, count: usize) -> Checked<&'a [u8]> {
-        if self.rest.len() < count {
-            return Err(1);
-        }
-        let (taken, rest) = self.rest.split_at(count);
-        self.rest = rest;
-        Ok(taken)
-    }
-
-    fn key(&mut self) -> Checked<Key> {
-        let length = self.take(2)?;
-        let length = usize::from(length[0]) * 256 + usize::from(length[1]);
-        if length > KEY_CEILING {
-            return Err(3);
-        }
-        Ok(self.take(length)?.to_vec())
-    }
-
-    fn bound(&mut self, kind: u8) -> Checked<Bound> {
-        Ok(match kind {
-            0 => Bound::Unbounded,
-            1 => Bound::Included(self.key()?),
-            _ => Bound::Excluded(self.key()?),
-        })
-    }
-
-    fn end(self) -> Checked<()> {
-        if self.rest.is_empty() {
-            Ok(())
-        } else {
-            Err(1)
-        }
-    }
-}
-
 /// Checks 1 to 3 of a buffer that holds one range, its rest included.
 fn read_range(buffer: &[u8]) -> Checked<Range> {
     let mut reader = Reader::new(buffer)?;
-    let head = reader.take(1)?[0];
-    let (start, end, padding) = (head >> 6, (head >> 4) & 3, head & 15);
-    if start == 3 || end == 3 || padding != 0 {
-        return Err(2);
-    }
-    let range = (reader.bound(start)?, reader.bound(end)?);
+    let range = reader.range()?;
     reader.end()?;
     Ok(range)
 }
@@ -120,15 +64,6 @@ fn read_bound(kind: u8, buffer: &[u8]) -> Checked<Bound> {
     })
 }
 
-/// Check 4.
-fn pass(range: &Range) -> Checked<()> {
-    if oracle::non_empty(range) {
-        Ok(())
-    } else {
-        Err(4)
-    }
-}
-
 /// Check 16.
 fn fits(image: Vec<u8>, room: u16) -> Checked<Vec<u8>> {
     if usize::from(room) < image.len() {
@@ -136,32 +71,6 @@ fn fits(image: Vec<u8>, room: u16) -> Checked<Vec<u8>> {
     } else {
         Ok(image)
     }
-}
-
-// ---------------------------------------------------------------- images
-
-fn key_of(bound: &Bound) -> Option<&Key> {
-    match bound {
-        Bound::Unbounded => None,
-        Bound::Included(key) | Bound::Excluded(key) => Some(key),
-    }
-}
-
-fn kind_of(bound: &Bound) -> u8 {
-    match bound {
-        Bound::Unbounded => 0,
-        Bound::Included(_) => 1,
-        Bound::Excluded(_) => 2,
-    }
-}
-
-fn image(range: &Range) -> Vec<u8> {
-    let mut bytes = vec![kind_of(&range.0) << 6 | kind_of(&range.1) << 4];
-    for key in [key_of(&range.0), key_of(&range.1)].into_iter().flatten() {
-        bytes.extend((key.len() as u16).to_be_bytes());
-        bytes.extend(key);
-    }
-    bytes
 }
 
 // ---------------------------------------------------------------- answers
@@ -325,40 +234,6 @@ fn answer(input: &Input) -> Checked<Vec<u8>> {
     })
 }
 
-// ---------------------------------------------------------------- chance
-
-/// splitmix64
-struct Chance(u64);
-
-impl Chance {
-    fn next(&mut self) -> u64 {
-        self.0 = self.0.wrapping_add(0x9E37_79B9_7F4A_7C15);
-        let mut z = self.0;
-        z = (z ^ (z >> 30)).wrapping_mul(0xBF58_476D_1CE4_E5B9);
-        z = (z ^ (z >> 27)).wrapping_mul(0x94D0_49BB_1331_11EB);
-        z ^ (z >> 31)
-    }
-
-    /// From 0 up to, without, `limit`.
-    fn below(&mut self, limit: usize) -> usize {
-        (self.next() % limit as u64) as usize
-    }
-
-    fn percent(&mut self, percent: usize) -> bool {
-        self.below(100) < percent
-    }
-
-    fn of<'a, T>(&mut self, list: &'a [T]) -> &'a T {
-        &list[self.below(list.len())]
-    }
-
-    fn shuffle<T>(&mut self, list: &mut [T]) {
-        for i in (1..list.len()).rev() {
-            list.swap(i, self.below(i + 1));
-        }
-    }
-}
-
 // ---------------------------------------------------------------- output
 
 struct Output<W: Write> {
@@ -468,38 +343,6 @@ fn bound_call(x: u8, y: u8, z: u8, a: &[u8], b: &[u8]) -> Input {
     }
 }
 
-/// All keys of at most `longest` bytes over the alphabet.
-fn small_keys(alphabet: &[u8], longest: usize) -> Vec<Key> {
-    let mut keys = vec![vec![]];
-    let mut from = 0;
-    for _ in 0..longest {
-        let to = keys.len();
-        for i in from..to {
-            for byte in alphabet {
-                keys.push([keys[i].clone(), vec![*byte]].concat());
-            }
-        }
-        from = to;
-    }
-    keys
-}
-
-fn all_bounds(keys: &[Key]) -> Vec<Bound> {
-    let mut bounds = vec![Bound::Unbounded];
-    bounds.extend(keys.iter().cloned().map(Bound::Included));
-    bounds.extend(keys.iter().cloned().map(Bound::Excluded));
-    bounds
-}
-
-fn all_ranges(keys: &[Key]) -> Vec<Range> {
-    let bounds = all_bounds(keys);
-    let ends = |start: &Bound| {
-        let start = start.clone();
-        bounds.iter().map(move |end| (start.clone(), end.clone()))
-    };
-    bounds.iter().flat_map(ends).collect()
-}
-
 /// How two keys lie to each other: order, and whether one begins with the other.
 fn relation(a: &[u8], b: &[u8]) -> u8 {
     match a.cmp(b) {
@@ -507,16 +350,6 @@ fn relation(a: &[u8], b: &[u8]) -> u8 {
         Ordering::Less => 1 + u8::from(b.starts_with(a)),
         Ordering::Greater => 3 + u8::from(a.starts_with(b)),
     }
-}
-
-/// The kinds of all bounds and the order of all keys in them.
-fn order_class(bounds: &[&Bound]) -> Vec<u8> {
-    let mut class: Vec<u8> = bounds.iter().map(|bound| kind_of(bound)).collect();
-    let keys: Vec<&Key> = bounds.iter().filter_map(|bound| key_of(bound)).collect();
-    for (i, a) in keys.iter().enumerate() {
-        class.extend(keys[i + 1..].iter().map(|b| a.cmp(b) as u8));
-    }
-    class
 }
 
 /// Every way in which one place of an image can be damaged.
@@ -565,20 +398,6 @@ fn lengths_at(good: &[u8]) -> Vec<usize> {
         at += 2 + usize::from(good[at]) * 256 + usize::from(good[at + 1]);
     }
     places
-}
-
-fn included(start: &[u8], end: &[u8]) -> Range {
-    (
-        Bound::Included(start.to_vec()),
-        Bound::Included(end.to_vec()),
-    )
-}
-
-fn excluded(start: &[u8], end: &[u8]) -> Range {
-    (
-        Bound::Excluded(start.to_vec()),
-        Bound::Excluded(end.to_vec()),
-    )
 }
 
 /// Images of short ranges: good ones, and some for each of the stops 1 to 4.
@@ -1061,163 +880,32 @@ fn full_buffers<W: Write>(call: u8, out: &mut Output<W>) {
 
 // ---------------------------------------------------------------- random part
 
-/// Keys that are near each other: all derived from one stem.
-struct Family {
-    stem: Key,
-    alphabet: &'static [u8],
-}
-
-fn byte(chance: &mut Chance, alphabet: &[u8]) -> u8 {
-    if alphabet.is_empty() {
-        chance.next() as u8
-    } else {
-        *chance.of(alphabet)
+/// A range image, one in ten damaged.
+fn family_image(family: &Family, chance: &mut Chance) -> Vec<u8> {
+    let mut good = image(&family.range(chance));
+    if !chance.percent(10) {
+        return good;
     }
-}
-
-impl Family {
-    fn new(chance: &mut Chance, small: bool) -> Family {
-        let length = match chance.below(1_000) {
-            // In a small run the long keys of `long_keys` are enough.
-            _ if small => chance.below(10),
-            0..=14 => 1_024,
-            15..=24 => 1_023,
-            25..=29 => 1_016 + chance.below(10),
-            30..=99 => 65 + chance.below(335),
-            100..=299 => 13 + chance.below(52),
-            _ => chance.below(13),
-        };
-        let alphabet: &[u8] = match chance.below(10) {
-            0 => &[0xFF],
-            1 => &[0x00, 0xFF],
-            2 | 3 => &[0x00, 0x61, 0xFF],
-            4 | 5 => &[0x61, 0x62],
-            _ => &[],
-        };
-        let stem = (0..length).map(|_| byte(chance, alphabet)).collect();
-        Family { stem, alphabet }
-    }
-
-    fn any_key(&self, chance: &mut Chance) -> Key {
-        let mut key = self.stem.clone();
-        let more = match chance.below(16) {
-            0 => return vec![],
-            1..=3 => 0,
-            4 | 5 => {
-                key.push(0);
-                0
-            }
-            6 => {
-                key.push(0xFF);
-                0
-            }
-            7 => {
-                key.pop();
-                0
-            }
-            8 | 9 => {
-                if let Some(last) = key.last_mut() {
-                    *last = last.wrapping_add(if chance.percent(50) { 1 } else { 255 });
-                }
-                0
-            }
-            10 => {
-                let cut = chance.below(key.len() + 1);
-                key.truncate(cut);
-                0
-            }
-            11 | 12 => {
-                if !key.is_empty() {
-                    let at = chance.below(key.len());
-                    key[at] = byte(chance, self.alphabet);
-                }
-                0
-            }
-            13 => {
-                // A run of FF at the end.
-                let cut = chance.below(key.len().min(4) + 1);
-                key.truncate(key.len() - cut);
-                key.resize(key.len() + cut, 0xFF);
-                0
-            }
-            14 => 1,
-            _ => 1 + chance.below(4),
-        };
-        for _ in 0..more {
-            key.push(byte(chance, self.alphabet));
+    match chance.below(8) {
+        0 | 1 => good.truncate(chance.below(good.len())),
+        2 | 3 => {
+            let at = chance.below(good.len());
+            good[at] = chance.next() as u8;
         }
-        key
-    }
-
-    /// Mostly not above the ceiling.
-    fn key(&self, chance: &mut Chance) -> Key {
-        let mut key = self.any_key(chance);
-        if key.len() > KEY_CEILING && !chance.percent(12) {
-            key.truncate(KEY_CEILING);
+        4 => {
+            let more = 1 + chance.below(3);
+            good.extend((0..more).map(|_| chance.next() as u8));
         }
-        key
-    }
-
-    fn bound(&self, chance: &mut Chance) -> Bound {
-        match chance.below(5) {
-            0 => Bound::Unbounded,
-            1 | 2 => Bound::Included(self.key(chance)),
-            _ => Bound::Excluded(self.key(chance)),
+        5 => good[0] |= *chance.of(&[0xC0, 0x30]),
+        6 => good[0] |= 1 << chance.below(4),
+        _ => {
+            if let Some(&at) = lengths_at(&good).last() {
+                let length = *chance.of(&[0u16, 1, 5, 1_024, 1_025, 2_000, 65_535]);
+                good[at..at + 2].copy_from_slice(&length.to_be_bytes());
+            }
         }
     }
-
-    fn range(&self, chance: &mut Chance) -> Range {
-        match chance.below(40) {
-            0 | 1 => {
-                let key = self.key(chance);
-                let next = [&key[..], &[0]].concat();
-                return excluded(&key, &next);
-            }
-            2 | 3 => {
-                let key = self.key(chance);
-                return included(&key, &key);
-            }
-            4 => return (Bound::Unbounded, Bound::Excluded(vec![])),
-            _ => {}
-        }
-        let (mut start, mut end) = (self.bound(chance), self.bound(chance));
-        if !oracle::non_empty(&(start.clone(), end.clone())) && !chance.percent(12) {
-            std::mem::swap(&mut start, &mut end);
-            if key_of(&start) == key_of(&end) {
-                let key = key_of(&start).unwrap().clone();
-                return included(&key, &key);
-            }
-        }
-        (start, end)
-    }
-
-    /// A range image, one in ten damaged.
-    fn image(&self, chance: &mut Chance) -> Vec<u8> {
-        let mut good = image(&self.range(chance));
-        if !chance.percent(10) {
-            return good;
-        }
-        match chance.below(8) {
-            0 | 1 => good.truncate(chance.below(good.len())),
-            2 | 3 => {
-                let at = chance.below(good.len());
-                good[at] = chance.next() as u8;
-            }
-            4 => {
-                let more = 1 + chance.below(3);
-                good.extend((0..more).map(|_| chance.next() as u8));
-            }
-            5 => good[0] |= *chance.of(&[0xC0, 0x30]),
-            6 => good[0] |= 1 << chance.below(4),
-            _ => {
-                if let Some(&at) = lengths_at(&good).last() {
-                    let length = *chance.of(&[0u16, 1, 5, 1_024, 1_025, 2_000, 65_535]);
-                    good[at..at + 2].copy_from_slice(&length.to_be_bytes());
-                }
-            }
-        }
-        good
-    }
+    good
 }
 
 fn random<W: Write>(call: u8, count: usize, out: &mut Output<W>) {
@@ -1247,11 +935,15 @@ fn random<W: Write>(call: u8, count: usize, out: &mut Output<W>) {
                     let range = (family.bound(chance), family.bound(chance));
                     call1(call, &image(&range))
                 } else {
-                    call1(call, &family.image(chance))
+                    call1(call, &family_image(&family, chance))
                 }
             }
-            AS_POINT => call1(call, &family.image(chance)),
-            INTERSECT | UNION => call2(call, &family.image(chance), &family.image(chance)),
+            AS_POINT => call1(call, &family_image(&family, chance)),
+            INTERSECT | UNION => call2(
+                call,
+                &family_image(&family, chance),
+                &family_image(&family, chance),
+            ),
             FROM_PREFIX => call1(call, &family.key(chance)),
             FROM_PREFIX_AND_SUBRANGE => {
                 let prefix = family.key(chance);
@@ -1260,9 +952,9 @@ fn random<W: Write>(call: u8, count: usize, out: &mut Output<W>) {
                     let room = KEY_CEILING.saturating_sub(prefix.len());
                     suffixes.stem.truncate(room);
                 }
-                call2(call, &prefix, &suffixes.image(chance))
+                call2(call, &prefix, &family_image(&suffixes, chance))
             }
-            CONTAINS => call2(call, &family.image(chance), &family.key(chance)),
+            CONTAINS => call2(call, &family_image(&family, chance), &family.key(chance)),
             _ => unreachable!(),
         };
         if call == FROM_PREFIX || call == FROM_PREFIX_AND_SUBRANGE {

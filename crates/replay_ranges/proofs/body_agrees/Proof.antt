@@ -1,6 +1,6 @@
 -- `replay_ranges::body_agrees` is safe.
 -- Assumes nothing.
-use Rattle.replay_ranges.proofs.Parts.{lengths, front-length}
+use Rattle.replay.proofs.Parts.{lengths, front-length}
 use native.Mathlib.Omega.{arith}
 use borrow.Author.Needs.{needs}
 use Rattle.replay_ranges.proofs.body_agrees.Statement.{statement}

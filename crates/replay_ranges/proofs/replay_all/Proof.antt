@@ -18,8 +18,14 @@ loop-holds c = search needs
 replay-next-requires : tie.Need-replay-next-requires Inv-loop μ-loop
 replay-next-requires c κs = search needs
 
-enum-told : tie.Need-enum-told Inv-loop μ-loop
-enum-told c = search needs
+enum-known-call : tie.Need-enum-known-call Inv-loop μ-loop
+enum-known-call c = search needs
+
+slot-requires : tie.Need-slot-requires Inv-loop μ-loop
+slot-requires c κs = search needs
+
+tally-requires : tie.Need-tally-requires Inv-loop μ-loop
+tally-requires c κs = search needs
 
 sub-left : tie.Need-sub-left Inv-loop μ-loop
 sub-left c = search needs
@@ -65,7 +71,9 @@ replay-all-spec =
     μ-loop
     loop-holds
     replay-next-requires
-    enum-told
+    enum-known-call
+    slot-requires
+    tally-requires
     sub-left
     loop-less
     loop-again

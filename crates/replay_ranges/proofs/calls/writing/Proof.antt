@@ -1,6 +1,6 @@
 -- `replay_ranges::writing` is safe.
 -- Assumes nothing.
-use Rattle.replay_ranges.proofs.Parts.{lengths}
+use Rattle.replay.proofs.Parts.{lengths}
 use borrow.Author.Needs.{needs}
 use Rattle.replay_ranges.proofs.calls.writing.Statement.{statement}
 use Rattle.replay_ranges.proofs.calls.writing.Tie as tie

@@ -1,10 +1,10 @@
--- `replay_ranges::is_unwritten` is safe and ends: the measure is what is left of the buffer.
+-- `replay::is_unwritten` is safe and ends: the measure is what is left of the buffer.
 -- Assumes nothing.
 use Prim.Native.Nat.{_-_}
 use lib.ListN.{length}
 use borrow.Author.Needs.{needs}
-use Rattle.replay_ranges.proofs.calls.is_unwritten.Statement.{statement}
-use Rattle.replay_ranges.proofs.calls.is_unwritten.Tie as tie
+use Rattle.replay.proofs.buffer.is_unwritten.Statement.{statement}
+use Rattle.replay.proofs.buffer.is_unwritten.Tie as tie
 
 abbrev Inv-loop : tie.InvT-loop
 Inv-loop out from i₀ i = Unit {0}

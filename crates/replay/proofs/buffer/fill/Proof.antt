@@ -1,12 +1,12 @@
--- `replay_ranges::fill` is safe and ends: the buffer keeps its length, and the measure is what is left of it.
+-- `replay::fill` is safe and ends: the buffer keeps its length, and the measure is what is left of it.
 -- Assumes nothing.
-use Rattle.replay_ranges.proofs.Parts.{lengths}
+use Rattle.replay.proofs.Parts.{lengths}
 use Prim.Native.Nat.{_≤_, _-_}
 use lib.ListN.{length}
 use mathlib.Core.Path.{_≡_}
 use borrow.Author.Needs.{needs}
-use Rattle.replay_ranges.proofs.calls.fill.Statement.{statement}
-use Rattle.replay_ranges.proofs.calls.fill.Tie as tie
+use Rattle.replay.proofs.buffer.fill.Statement.{statement}
+use Rattle.replay.proofs.buffer.fill.Tie as tie
 
 abbrev Inv-loop : tie.InvT-loop
 Inv-loop out₀ i₀ out i = (i ≤ length out₀) × (length out ≡ length out₀)

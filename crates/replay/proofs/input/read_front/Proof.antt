@@ -1,9 +1,9 @@
--- `replay_ranges::read_front` is safe.
+-- `replay::read_front` is safe.
 -- Assumes nothing.
-use Rattle.replay_ranges.proofs.Parts.{lengths}
+use Rattle.replay.proofs.Parts.{lengths}
 use borrow.Author.Needs.{needs}
-use Rattle.replay_ranges.proofs.read_front.Statement.{statement}
-use Rattle.replay_ranges.proofs.read_front.Tie as tie
+use Rattle.replay.proofs.input.read_front.Statement.{statement}
+use Rattle.replay.proofs.input.read_front.Tie as tie
 
 returns : tie.Need-returns
 returns c = search (needs, lengths)

@@ -1,0 +1,49 @@
+// A lent buffer, every byte of which is held to a recorded answer.
+use crate::answer;
+use crate::answer::Place;
+use base::Written;
+
+// A byte that says that a buffer's byte was not written.
+const UNWRITTEN: u8 = 165;
+
+pub fn fill(out: &mut [u8]) {
+    let mut i = 0;
+    while i < out.len() {
+        out[i] = UNWRITTEN;
+        i += 1;
+    }
+}
+
+fn is_unwritten(out: &[u8], from: usize) -> bool {
+    let mut i = from;
+    while i < out.len() {
+        if out[i] != UNWRITTEN {
+            return false;
+        }
+        i += 1;
+    }
+    true
+}
+
+// Whether a buffer holds the answer at its front and is unwritten past it.
+fn buffer_is(answer: &[u8], out: &[u8], length: usize) -> bool {
+    let front = [0];
+    let place = answer::bytes(answer, Place::At(0), &front);
+    if answer::is_end(answer, answer::part(answer, place, out, 0, length)) {
+        return is_unwritten(out, length);
+    }
+    false
+}
+
+// Whether a call wrote what was recorded into a buffer that was filled before.
+pub fn written_is(answer: &[u8], out: &[u8], w: Written) -> bool {
+    match w {
+        Written::Wrote(n) => buffer_is(answer, out, n),
+        Written::Stop(n) => {
+            if is_unwritten(out, 0) {
+                return answer::is_stop(answer, n);
+            }
+            false
+        }
+    }
+}
