@@ -23,7 +23,7 @@ use Rattle.manifest.specs.Checks.{visiblePasses, isExcluded, keysInOrder
 use Rattle.manifest.specs.Faults.{faultOf, least, ordered, viewChecks}
 use Rattle.manifest.specs.Spans.{firstSpan, lastSpan, EffectiveFound, plainKind, plainStart, sizeFits}
 use Rattle.manifest.specs.declared.ranges.RangeSpan.{RangeSpan}
-use Rattle.manifest.proofs.ViewRanges.{own-passes, meets-is, startsPlain}
+use Rattle.manifest.proofs.ViewRanges.{own-passes, meets-alone, startsPlain}
 use Rattle.manifest.proofs.RangeExits.{own-in}
 
 -- ---- visible_passes
@@ -62,21 +62,17 @@ plain-is : (s : List ℕ) (f : Bool) (a b : BoundSpan) → pick f (plainKind (a 
 plain-is s true a b = plain-kind (a .kind) (take (a .len) (drop (a .at) s))
 plain-is s false a b = refl
 
-module _ (s : List ℕ) (v : ViewSpan) {k : Bool} (h : k ≡ keysInOrder (tableIn s (v .table))) where
-  all-three : tablePasses (viewIn s v) ≡ (k && (plainStart v && nonEmpty (effective (viewIn s v))))
-  all-three = meets-is (viewIn s v) ∙ rw (← h, ← (plain-is s (v .shown) (v .start) (v .end)))
+module _ (s : List ℕ) (v : ViewSpan) {p : Bool} (q : p ≡ plainStart v) where
+  both : tablePasses (viewIn s v) ≡ (p && nonEmpty (effective (viewIn s v)))
+  both = meets-alone (viewIn s v) ∙ rw (← (plain-is s (v .shown) (v .start) (v .end)), ← q)
 
-  pub out-of-order : k ≡ false → false ≡ tablePasses (viewIn s v)
-  out-of-order e = sym (all-three ∙ rw e)
+  pub excluded-start : p ≡ false → false ≡ tablePasses (viewIn s v)
+  excluded-start z = sym (both ∙ rw z)
 
-  module _ (e : k ≡ true) {p : Bool} (q : p ≡ plainStart v) where
-    pub excluded-start : p ≡ false → false ≡ tablePasses (viewIn s v)
-    excluded-start z = sym (all-three ∙ rw (e, ← q, z))
+  pub tested : {r : RangeSpan} {m : Bool} → p ≡ true → EffectiveFound s v r → m ≡ nonEmpty (rangeIn s (r .start) (r .end)) → m ≡ tablePasses (viewIn s v)
+  tested z f w = sym (both ∙ rw z (sym (w ∙ ap nonEmpty (f .meaning))))
 
-    pub tested : {r : RangeSpan} {m : Bool} → p ≡ true → EffectiveFound s v r → m ≡ nonEmpty (rangeIn s (r .start) (r .end)) → m ≡ tablePasses (viewIn s v)
-    tested z f w = sym (all-three ∙ rw (e, ← q, z) (sym (w ∙ ap nonEmpty (f .meaning))))
-
-pub ruleset table-exits = (out-of-order, excluded-start, tested)
+pub ruleset table-exits = (excluded-start, tested)
 
 -- ---- size_passes
 pub size-over : (o n : ℕ) → 9007199254740992 < o → false ≡ sizeFits o n

@@ -2,7 +2,7 @@
 -- starts included or unbounded, it still starts included.
 -- Assumes nothing.
 use mathlib.Core.Path.{_≡_, refl, sym, ap, _∙_}
-use mathlib.Core.Bool.{Bool, true, false, not, _&&_, and-self, and-true, false≢true}
+use mathlib.Core.Bool.{Bool, true, false, not, _&&_, and-self, and-true, and-false, false≢true}
 use mathlib.Core.Option.{Option, none, some}
 use Rattle.base.specs.Pick.{pick, and-first, and-second}
 use Rattle.key.specs.Order.{Key}
@@ -10,6 +10,10 @@ use Rattle.comparable_range.specs.declared.Side.{Side}
 use Rattle.comparable_range.specs.declared.Side.the-variants.{First, Second}
 use Rattle.comparable_range.specs.declared.Sides.the-variants.{Nothing, From}
 use Rattle.comparable_range.specs.Range.{Bound, unbounded, included, excluded, Range, of, cmpBound, boundsPass, nonEmpty, holds, startSide, endSide, overlap, intersectSides, meets}
+use Rattle.comparable_range.specs.Cut.{startCut, endCut}
+use Rattle.comparable_range.proofs.Cut.{≺-≼-trans, ≼-≺-trans}
+use Rattle.comparable_range.proofs.Lattice.{≼-later-left, sooner-≼-left}
+use Rattle.comparable_range.proofs.ByCuts.{start-side-cut, end-side-cut, passes-≺, ≺-passes}
 use Rattle.comparable_range.proofs.Keyless.{included-start-is-held}
 use Rattle.comparable_range.proofs.Intersection.{overlap-holds}
 use Rattle.records.specs.Values.{Table, View}
@@ -52,6 +56,29 @@ meets-is v = go (v .visible)
         → (keysInOrder t && meetsOwn (own t) o) ≡ (keysInOrder t && (startsPlain o && nonEmpty (cutBy o (own t))))
     go none = rw (own-passes t, and-self, and-true)
     go (some r) = ap (λ b. keysInOrder t && (not (isExcluded (r .start)) && b)) (meets-overlap (own t) r)
+
+-- what is cut out of a range passes the test only if the range does
+cut-from : (r q : Range) → nonEmpty (overlap r q) ≡ true → nonEmpty r ≡ true
+cut-from r q h =
+    let c = rw (start-side-cut (r .start) (q .start), end-side-cut (r .end) (q .end)) at (passes-≺ (overlap r q .start) (overlap r q .end) h) in
+    ≺-passes (r .start) (r .end) (≺-≼-trans (≼-≺-trans (≼-later-left (startCut (r .start)) (startCut (q .start))) c) (sooner-≼-left (endCut (r .end)) (endCut (q .end))))
+
+effective-in-order : (v : View) → nonEmpty (effective v) ≡ true → keysInOrder (v .table) ≡ true
+unfolding effective
+effective-in-order v = go (v .visible)
+  where
+    go : (o : Option Range) → nonEmpty (cutBy o (own (v .table))) ≡ true → keysInOrder (v .table) ≡ true
+    go none h = sym (own-passes (v .table)) ∙ h
+    go (some r) h = sym (own-passes (v .table)) ∙ cut-from (own (v .table)) r h
+
+implied : (k p m : Bool) → (m ≡ true → k ≡ true) → (k && (p && m)) ≡ (p && m)
+implied true p m h = refl
+implied false p false h = sym (and-false p)
+implied false p true h = absurd (false≢true (h refl))
+
+-- so the last two of the three decide
+pub meets-alone : (v : View) → tablePasses v ≡ (startsPlain (v .visible) && nonEmpty (effective v))
+meets-alone v = meets-is v ∙ implied (keysInOrder (v .table)) (startsPlain (v .visible)) (nonEmpty (effective v)) (effective-in-order v)
 
 -- ---- the keys held
 pub own-holds-first : OwnHoldsFirst

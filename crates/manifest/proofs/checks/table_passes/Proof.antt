@@ -5,9 +5,6 @@ use borrow.Author.Needs.{needs}
 use Rattle.manifest.proofs.checks.table_passes.Statement.{statement}
 use Rattle.manifest.proofs.checks.table_passes.Tie as tie
 
-keys-in-order-requires : tie.Need-keys-in-order-requires
-keys-in-order-requires c κs = search (needs, table-exits)
-
 starts-plain-requires : tie.Need-starts-plain-requires
 starts-plain-requires c κs = search (needs, table-exits)
 
@@ -20,16 +17,5 @@ returns c = search (needs, table-exits)
 returns-2 : tie.Need-returns-2
 returns-2 c = search (needs, table-exits)
 
-returns-3 : tie.Need-returns-3
-returns-3 c = search (needs, table-exits)
-
 pub table-passes-spec : {M : Type 1} → statement M
-table-passes-spec =
-    tie.close
-    (tie.spec
-    keys-in-order-requires
-    starts-plain-requires
-    passes-requires
-    returns
-    returns-2
-    returns-3)
+table-passes-spec = tie.close (tie.spec starts-plain-requires passes-requires returns returns-2)
