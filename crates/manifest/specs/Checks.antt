@@ -12,7 +12,7 @@ use Rattle.records.specs.Values.{Table, View, Image, Job, Index, Anchors}
 use Rattle.records.specs.Layouts.{image}
 use Rattle.manifest.specs.Ranges.{own, effective}
 
--- what each of the checks says of an input
+-- whether an input passes each of the checks 4, 5, 6 and 7
 pub record Checks : Type 0 where
   pub ranges : Bool
   pub tables : Bool
