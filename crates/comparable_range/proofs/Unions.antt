@@ -108,7 +108,8 @@ adjacent-by-cuts (excluded a) unbounded = refl
 adjacent-by-cuts (excluded a) (included b) = rw (orElse-end (cmpKey a b))
 adjacent-by-cuts (excluded a) (excluded b) = unequal-before (cmpKey a b)
 
-meets-is : (r q : Range) → meets (intersectSides r q) ≡ nonEmpty (overlap r q)
+-- two ranges meet exactly if the greater start and the lesser end pass the test
+pub meets-is : (r q : Range) → meets (intersectSides r q) ≡ nonEmpty (overlap r q)
 unfolding intersectSides
 meets-is r q = go (nonEmpty (overlap r q))
   where

@@ -3,6 +3,9 @@ use base::Written;
 use bilqarush::Checked;
 use bilqarush::ViewRange;
 use comparable_range::Kind;
+ghost use mathlib.Core.Path.{_≡_};
+ghost use lib.ListN.{take};
+ghost use Rattle.images.specs.Answers.{stopOr};
 
 pub fn text(t: &[u8]) {
     io::write_all(libc::STDOUT_FILENO, t);
@@ -19,7 +22,9 @@ fn stop(n: u8) {
 }
 
 // The front of a buffer.
-pub fn front(buffer: &[u8], length: usize) -> &[u8] {
+pub fn front(buffer: &[u8], length: usize) -> &[u8]
+    ensures { λ r. ⌜ now r ≡ take length (now (buffer .entry)) ⌝ }
+{
     if length <= buffer.len() {
         return &buffer[..length];
     }
@@ -27,7 +32,9 @@ pub fn front(buffer: &[u8], length: usize) -> &[u8] {
 }
 
 // The number of a refused image's stop, or the one given for an accepted image.
-pub fn stop_or(c: Checked, other: u8) -> u8 {
+pub fn stop_or(c: Checked, other: u8) -> u8
+    ensures { λ r. ⌜ r ≡ stopOr c other ⌝ }
+{
     match c {
         Checked::Accepted => other,
         Checked::Stop(n) => n,

@@ -4,18 +4,18 @@
 use mathlib.Core.Path.{_≡_, refl, sym, ap, _∙_}
 use mathlib.Core.Bool.{Bool, true, false, not, _&&_, and-self, and-true, and-false, false≢true}
 use mathlib.Core.Option.{Option, none, some}
-use Rattle.base.specs.Pick.{pick, and-first, and-second}
+use Rattle.base.specs.Pick.{and-first, and-second}
 use Rattle.key.specs.Order.{Key}
 use Rattle.comparable_range.specs.declared.Side.{Side}
 use Rattle.comparable_range.specs.declared.Side.the-variants.{First, Second}
-use Rattle.comparable_range.specs.declared.Sides.the-variants.{Nothing, From}
-use Rattle.comparable_range.specs.Range.{Bound, unbounded, included, excluded, Range, of, cmpBound, boundsPass, nonEmpty, holds, startSide, endSide, overlap, intersectSides, meets}
+use Rattle.comparable_range.specs.Range.{Bound, unbounded, included, excluded, Range, of, cmpBound, boundsPass, nonEmpty, holds, startSide, overlap}
 use Rattle.comparable_range.specs.Cut.{startCut, endCut}
 use Rattle.comparable_range.proofs.Cut.{≺-≼-trans, ≼-≺-trans}
 use Rattle.comparable_range.proofs.Lattice.{≼-later-left, sooner-≼-left}
 use Rattle.comparable_range.proofs.ByCuts.{start-side-cut, end-side-cut, passes-≺, ≺-passes}
 use Rattle.comparable_range.proofs.Keyless.{included-start-is-held}
 use Rattle.comparable_range.proofs.Intersection.{overlap-holds}
+use Rattle.comparable_range.proofs.Unions.{meets-is as ranges-meet}
 use Rattle.records.specs.Values.{Table, View}
 use Rattle.manifest.specs.Ranges.{lastBound, own, cutBy, effective}
 use Rattle.manifest.specs.Checks.{reaches, keysInOrder, isExcluded, meetsOwn, tablePasses}
@@ -35,14 +35,6 @@ abbrev pub startsPlain : Option Range → Bool
 startsPlain none = true
 startsPlain (some r) = not (isExcluded (r .start))
 
-meets-overlap : (r q : Range) → meets (intersectSides r q) ≡ nonEmpty (overlap r q)
-unfolding intersectSides
-meets-overlap r q = go (nonEmpty (overlap r q))
-  where
-    go : (t : Bool) → meets (pick t (From (startSide (r .start) (q .start)) (endSide (r .end) (q .end))) Nothing) ≡ t
-    go true = refl
-    go false = refl
-
 -- the keys are in order, then the visible range does not start excluded, then the effective range passes the test
 pub meets-is : (v : View) → tablePasses v ≡ (keysInOrder (v .table) && (startsPlain (v .visible) && nonEmpty (effective v)))
 unfolding tablePasses effective
@@ -55,7 +47,7 @@ meets-is v = go (v .visible)
         (o : Option Range)
         → (keysInOrder t && meetsOwn (own t) o) ≡ (keysInOrder t && (startsPlain o && nonEmpty (cutBy o (own t))))
     go none = rw (own-passes t, and-self, and-true)
-    go (some r) = ap (λ b. keysInOrder t && (not (isExcluded (r .start)) && b)) (meets-overlap (own t) r)
+    go (some r) = ap (λ b. keysInOrder t && (not (isExcluded (r .start)) && b)) (ranges-meet (own t) r)
 
 -- what is cut out of a range passes the test only if the range does
 cut-from : (r q : Range) → nonEmpty (overlap r q) ≡ true → nonEmpty r ≡ true

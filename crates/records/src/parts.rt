@@ -23,7 +23,6 @@ pub enum PartRead {
 // The head of the part at a place: the range, then a word with the completed flag in its highest bit and the output count
 // in the other 15.
 pub fn part_at(s: &[u8], at: usize) -> PartRead
-    requires { ⌜ at ≤ length (now s) ⌝ }
     ensures { λ r. ⌜ PartFound (now (s .entry)) (partHead .read (drop at (now (s .entry)))) r ⌝ }
 {
     match format::range_at(s, at) {

@@ -2,6 +2,9 @@
 use crate::answer;
 use crate::answer::Place;
 use base::Written;
+ghost use mathlib.Core.Path.{_≡_};
+ghost use mathlib.Core.Bool.{true};
+ghost use Rattle.replay.specs.Unwritten.{Unwritten};
 
 // A byte that says that a buffer's byte was not written.
 const UNWRITTEN: u8 = 165;
@@ -14,7 +17,9 @@ pub fn fill(out: &mut [u8]) {
     }
 }
 
-fn is_unwritten(out: &[u8], from: usize) -> bool {
+fn is_unwritten(out: &[u8], from: usize) -> bool
+    ensures { λ r. ⌜ (r ≡ true → Unwritten (now (out .entry)) from) ⌝ }
+{
     let mut i = from;
     while i < out.len() {
         if out[i] != UNWRITTEN {

@@ -1,7 +1,8 @@
--- `images::front` is safe.
+-- `images::front` meets its contract.
 -- Assumes nothing.
 use native.Mathlib.Omega.{arith}
 use lib.ListN.{length-take}
+use Rattle.images.proofs.TakeAll.{all-of}
 use borrow.Author.Needs.{needs}
 use Rattle.images.proofs.report.front.Statement.{statement}
 use Rattle.images.proofs.report.front.Tie as tie
@@ -13,7 +14,7 @@ returns : tie.Need-returns
 returns c = search needs
 
 returns-2 : tie.Need-returns-2
-returns-2 c = search needs
+returns-2 c = search (needs, all-of)
 
 pub front-spec : {M : Type 1} → statement M
 front-spec = tie.close (tie.spec slice-aggregate-result returns returns-2)
