@@ -1,0 +1,4 @@
+pub mod Pieces
+pub mod WriteExits
+pub mod SupplyExits
+pub mod Adding

@@ -1,0 +1,15 @@
+pub mod Intervals
+pub mod Sort
+pub mod Views
+pub mod Parts
+pub mod Jobs
+pub mod Checks
+pub mod Draws
+pub mod Gaps
+pub mod Commit
+pub mod Ids
+pub mod Values
+pub mod Patterns
+pub mod Laws
+pub mod Demand
+pub mod NewImages

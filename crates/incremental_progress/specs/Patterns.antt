@@ -1,0 +1,46 @@
+-- The bytes of an image of which drawn bits are left open. Only the last 10 bytes of a drawn id are.
+use Prim.Native.Nat.{ℕ, zero, suc, _-_}
+use mathlib.Core.Option.{Option, none, some}
+use mathlib.Core.List.{List, [], _∷_, _++_, map, flatMap}
+use lib.ListN.{length}
+use Rattle.records.specs.Values.{View, Run, Image}
+use Rattle.records.specs.Layouts.{view, upTo}
+use Rattle.records.specs.Spans.{runHead}
+use Rattle.records.specs.declared.ids.ViewId.{ViewId}
+
+-- each byte is known, or left open
+abbrev pub Pattern : Type 0
+Pattern = List (Option ℕ)
+
+abbrev pub known : List ℕ → Pattern
+known l = map some l
+
+unfoldable pub unknown : ℕ → Pattern
+unknown zero = []
+unknown (suc n) = none ∷ unknown n
+
+-- an id of 16 bytes is known whole; of a drawn id the 6 bytes of time are, and 10 are open
+unfoldable pub idPattern : ViewId → Pattern
+idPattern id = known (id .0) ++ unknown (16 - length (id .0))
+
+-- a view's id, and what is written after it
+unfoldable pub viewPattern : View → Pattern
+viewPattern v = idPattern (v .id) ++ known (view .write (record { id = record { 0 = [] }; table = v .table; visible = v .visible }))
+
+unfoldable pub runPattern : Run → Pattern
+runPattern r = known (runHead .write (r .id, length (r .views))) ++ flatMap viewPattern (r .views)
+
+unfoldable pub imagePattern : Image → Pattern
+imagePattern i = known (upTo 1 64 .write (length i)) ++ flatMap runPattern i
+
+-- bytes that are as long as a pattern, and equal where it is known
+pub data Fits : Pattern → List ℕ → Type 0 where
+  ended : Fits [] []
+  same : {b : ℕ} {p : Pattern} {l : List ℕ} → Fits p l → Fits (some b ∷ p) (b ∷ l)
+  any : {b : ℕ} {p : Pattern} {l : List ℕ} → Fits p l → Fits (none ∷ p) (b ∷ l)
+
+-- two lists of bytes, as long as each other, and equal but for what a pattern leaves open
+pub data AlikeBut : Pattern → List ℕ → List ℕ → Type 0 where
+  both-ended : AlikeBut [] [] []
+  equal : {b : ℕ} {p : Pattern} {l m : List ℕ} → AlikeBut p l m → AlikeBut (some b ∷ p) (b ∷ l) (b ∷ m)
+  free : {b c : ℕ} {p : Pattern} {l m : List ℕ} → AlikeBut p l m → AlikeBut (none ∷ p) (b ∷ l) (c ∷ m)

@@ -1,0 +1,4 @@
+pub mod TableLaws
+pub mod TableExits
+pub mod PartExits
+pub mod GapExits

@@ -1,0 +1,18 @@
+-- `progress::kind_of` meets its contract.
+-- Assumes nothing.
+use Rattle.progress.proofs.TableExits.{kind-other}
+use borrow.Author.Needs.{needs}
+use Rattle.progress.proofs.gap_table.kind_of.Statement.{statement}
+use Rattle.progress.proofs.gap_table.kind_of.Tie as tie
+
+returns : tie.Need-returns
+returns c = search needs
+
+returns-2 : tie.Need-returns-2
+returns-2 c = search needs
+
+returns-3 : tie.Need-returns-3
+returns-3 c = search (needs, kind-other)
+
+pub kind-of-spec : {M : Type 1} → statement M
+kind-of-spec = tie.close (tie.spec returns returns-2 returns-3)
