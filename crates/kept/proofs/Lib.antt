@@ -1,0 +1,4 @@
+pub mod KeptLaws
+pub mod KeepingLaws
+pub mod PieceExits
+pub mod ViewExits

@@ -1,0 +1,2 @@
+pub mod EntryExits
+pub mod SelectExits

@@ -1,0 +1,3 @@
+pub mod Covered
+pub mod Ids
+pub mod Spans

@@ -1,0 +1,4 @@
+pub mod OnePiece
+pub mod HeldExits
+pub mod LenExits
+pub mod SizeExits

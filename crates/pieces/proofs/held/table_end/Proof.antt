@@ -1,0 +1,31 @@
+-- `pieces::held::table_end` meets its contract.
+-- Assumes nothing.
+use Rattle.pieces.proofs.HeldExits.{table-end-exits}
+use borrow.Author.Needs.{needs}
+use Rattle.pieces.proofs.held.table_end.Statement.{statement}
+use Rattle.pieces.proofs.held.table_end.Tie as tie
+use Rattle.pieces.proofs.held.table_end.Reads as reads
+use Rattle.pieces.proofs.held.table_end.Lts as lts
+use Rattle.records.proofs.table_at.Reads as table-at-reads
+
+add-table-at : tie.Need-add-table-at
+add-table-at c = search needs
+
+table-at-requires : tie.Need-table-at-requires
+table-at-requires c κs = search (needs, table-end-exits)
+
+enum-told : tie.Need-enum-told
+enum-told c = search needs
+
+enum-known-end : tie.Need-enum-known-end
+enum-known-end c = search needs
+
+returns : tie.Need-returns
+returns c = search (needs, table-end-exits)
+
+returns-2 : tie.Need-returns-2
+returns-2 c = search (needs, table-end-exits)
+
+pub table-end-spec : {M : Type 1} → statement M
+table-end-spec =
+    tie.close (tie.spec add-table-at table-at-requires enum-told enum-known-end returns returns-2)

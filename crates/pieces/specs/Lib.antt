@@ -1,0 +1,4 @@
+pub mod Pieces
+pub mod Held
+pub mod Sizes
+pub mod Entries

@@ -1,0 +1,14 @@
+// What of a run's views lies in the gaps between durable intervals: measured, kept as numbers, and written.
+mod held;
+mod piece;
+mod sides;
+mod sizes;
+
+pub use held::ViewHeld;
+pub use held::view_held;
+pub use piece::Piece;
+pub use piece::piece_in;
+pub use sides::key_by;
+pub use sides::kind_by;
+pub use sizes::RunSized;
+pub use sizes::views_sized;

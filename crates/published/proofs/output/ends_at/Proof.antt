@@ -1,0 +1,34 @@
+-- `published::output::ends_at` meets its contract.
+-- Assumes nothing.
+use Rattle.published.proofs.OutputExits.{ends-exits}
+use borrow.Author.Needs.{needs}
+use Rattle.published.proofs.output.ends_at.Statement.{statement}
+use Rattle.published.proofs.output.ends_at.Tie as tie
+use Rattle.published.proofs.output.ends_at.Reads as reads
+use Rattle.published.proofs.output.ends_at.Lts as lts
+use Rattle.format.proofs.key_of.Reads as key-of-reads
+use Rattle.key.proofs.cmp.Reads as cmp-reads
+use Rattle.key.proofs.is_equal.Reads as is-equal-reads
+
+key-of-requires : tie.Need-key-of-requires
+key-of-requires c κs = search needs
+
+key-of-requires-2 : tie.Need-key-of-requires-2
+key-of-requires-2 c κs = search needs
+
+cmp-requires : tie.Need-cmp-requires
+cmp-requires c κs = search needs
+
+is-equal-requires : tie.Need-is-equal-requires
+is-equal-requires c κs = search needs
+
+returns : tie.Need-returns
+returns c = search (needs, ends-exits)
+
+returns-2 : tie.Need-returns-2
+returns-2 c = search (needs, ends-exits)
+
+pub ends-at-spec : {M : Type 1} → statement M
+ends-at-spec =
+    tie.close
+    (tie.spec key-of-requires key-of-requires-2 cmp-requires is-equal-requires returns returns-2)

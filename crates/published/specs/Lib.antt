@@ -1,0 +1,4 @@
+pub mod Outputs
+pub mod Parts
+pub mod Most
+pub mod Filled
