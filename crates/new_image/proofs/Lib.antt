@@ -1,2 +1,4 @@
 pub mod EntryExits
 pub mod SelectExits
+pub mod IntervalExits
+pub mod DestinationExits

@@ -1,3 +1,4 @@
 // The image that a commit makes: measured, and then written into the lent buffer.
+mod destination;
 mod entry;
 mod select;
