@@ -4,3 +4,4 @@ pub mod Prefixes
 pub mod Answered
 pub mod ImageExits
 pub mod Example
+pub mod CommitExits

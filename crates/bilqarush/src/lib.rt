@@ -1,10 +1,12 @@
 // The public calls. None has a `requires`: each takes any bytes, refuses by the numbers of document 01, and says what it
 // answers for each input as an equation with its definition in specs/. Ranges are range images; keys and prefixes are
 // lent as they are.
+mod commits;
 mod images;
 
 use base::Written;
 use bytes_range::span::Supplied;
+pub use commits::commit;
 use comparable_range::Kind;
 use comparable_range::Side;
 use comparable_range::Sides;

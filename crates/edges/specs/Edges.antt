@@ -3,6 +3,7 @@
 use Prim.Native.Nat.{ℕ}
 use mathlib.Core.Path.{_≡_}
 use mathlib.Core.Bool.{Bool, true, false}
+use mathlib.Core.Option.{Option, none, some}
 use mathlib.Core.List.{List, [], _∷_, map}
 use lib.IntN.{ℤ, pos, negsuc}
 use Rattle.base.specs.Outcome.{Outcome}
@@ -11,6 +12,9 @@ use Rattle.key.specs.Order.{Key}
 use Rattle.comparable_range.specs.Range.{Bound, unbounded, included, excluded, Range, holds}
 use Rattle.comparable_range.specs.Laws.{keyless}
 use Rattle.format.specs.Range.{writeRange}
+use Rattle.records.specs.Values.{Part}
+use Rattle.incremental_progress.specs.Intervals.{Interval, subtractFrom}
+use Rattle.incremental_progress.specs.Parts.{durable}
 use Rattle.bilqarush.specs.Calls.{cmpBoundOutcome, nonEmptyOutcome, containsOutcome, fromPrefixOutcome}
 
 -- the answers of all calls in one type
@@ -19,6 +23,8 @@ pub data Answer : Type 0 where
   is : Bool → Answer
   order : ℤ → Answer
   bytes : List ℕ → Answer
+  ranges : List Range → Answer
+  interval : Option Interval → Answer
 
 abbrev test : Outcome Bool → Answer
 test (outcome.stop n) = stop n
@@ -47,6 +53,29 @@ a = 97 ∷ []
 abbrev a00 : Key
 a00 = 97 ∷ 0 ∷ []
 
+abbrev c : Key
+c = 99 ∷ []
+
+abbrev f : Key
+f = 102 ∷ []
+
+abbrev z : Key
+z = 122 ∷ []
+
+abbrev fromCtoF : Interval
+fromCtoF = record { start = some c; end = some f }
+
+-- a part from c on, whose worker wrote one table, from c to the last key given
+abbrev unfinished : Key → Part
+unfinished last =
+    record {
+      planned = record { start = included c; end = unbounded };
+      completed = false;
+      outputs =
+          record { id = record { 0 = [] }; index-offset = 0; index-len = 0; filter-offset = 0; first = c; last = some last }
+          ∷ [];
+    }
+
 abbrev range : Bound → Bound → Range
 range s e = record { start = s; end = e }
 
@@ -68,6 +97,13 @@ edges =
     -- prefix 61 FF ends before 62; FF FF is unbounded
     ∷ (writing (fromPrefixOutcome (97 ∷ 255 ∷ []) 8) ∶ bytes (image (included (97 ∷ 255 ∷ [])) (excluded (98 ∷ []))))
     ∷ (writing (fromPrefixOutcome (255 ∷ 255 ∷ []) 5) ∶ bytes (image (included (255 ∷ 255 ∷ [])) unbounded))
+    -- [a,z] less [c,f): [a,c), [f,z]; [c,f] less it: [f,f]
+    ∷ (ranges (subtractFrom fromCtoF (range (included a) (included z))) ∶ ranges (range (included a) (excluded c) ∷ range (included f) (included z) ∷ []))
+    ∷ (ranges (subtractFrom fromCtoF (range (included c) (included f))) ∶ ranges (range (included f) (included f) ∷ []))
+    -- unfinished part from c, last key c: no interval
+    ∷ (interval (durable (unfinished c)) ∶ interval none)
+    -- and with last key f: up to f, without it
+    ∷ (interval (durable (unfinished f)) ∶ interval (some fromCtoF))
     ∷ []
 
 abbrev pub EdgesHold : Type 0

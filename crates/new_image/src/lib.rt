@@ -2,3 +2,6 @@
 mod destination;
 mod entry;
 mod select;
+
+pub use destination::put_destination;
+pub use select::put_selected;

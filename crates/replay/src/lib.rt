@@ -4,4 +4,5 @@ pub mod answer;
 pub mod buffer;
 pub mod input;
 pub mod kind;
+pub mod piece;
 pub mod tally;

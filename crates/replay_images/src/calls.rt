@@ -6,14 +6,7 @@ use replay::answer;
 use replay::answer::Place;
 use replay::buffer;
 use replay::kind;
-
-// A record's head: a call, two numbers, and how many bytes follow.
-pub struct Fields {
-    pub call: u8,
-    pub x: usize,
-    pub y: usize,
-    pub length: usize,
-}
+use replay::piece::Fields;
 
 fn checked_is(answer: &[u8], c: Checked) -> bool {
     match c {

@@ -3,22 +3,13 @@
 // each stop says how many of its answers were the recorded bytes, whole.
 mod calls;
 
-use calls::Fields;
 use replay::input;
+use replay::piece;
+use replay::piece::Fields;
+use replay::piece::HEAD;
+use replay::piece::Piece;
 use replay::tally;
 ghost use Prim.Native.Nat.{_<_};
-
-// The length of a record's head.
-const HEAD: usize = 20;
-
-fn fields_of(head: &[u8]) -> Fields {
-    Fields {
-        call: input::byte_at(head, 0),
-        x: input::word_at(head, 1),
-        y: input::word_at(head, 9),
-        length: input::long_at(head, 17),
-    }
-}
 
 // The calls are 1 to 3, and an unknown one is counted as 0.
 fn call_slot(call: u8) -> usize
@@ -50,40 +41,11 @@ enum Turn {
     Ended(usize),
 }
 
-// Keeps the first bytes of the image and reads others after them.
-fn read_image(image: &mut [u8], held: usize, kept: usize, length: usize) -> Turn {
-    if held < kept {
-        return Turn::Ended(HEAD);
+fn image_turn(p: Piece) -> Turn {
+    match p {
+        Piece::Held(length) => Turn::Image(length),
+        Piece::Ended(n) => Turn::Ended(n),
     }
-    if image.len() < kept {
-        return Turn::Ended(HEAD);
-    }
-    if image.len() - kept < length {
-        return Turn::Ended(HEAD);
-    }
-    let end = kept + length;
-    let got = io::read_full(libc::STDIN_FILENO, &mut image[kept..end]);
-    if got < length {
-        return Turn::Ended(HEAD + got);
-    }
-    Turn::Image(end)
-}
-
-// Extends the image by bytes that repeat those so far before them.
-fn repeat(image: &mut [u8], held: usize, length: usize, before: usize) -> Turn {
-    if held < before {
-        return Turn::Ended(HEAD);
-    }
-    if image.len() < length {
-        return Turn::Ended(HEAD);
-    }
-    let mut i = held;
-    while i < length {
-        let b = image[i - before];
-        image[i] = b;
-        i += 1;
-    }
-    Turn::Image(length)
 }
 
 fn call_agrees(f: Fields, image: &[u8], held: usize, answer: &[u8], out: &mut [u8]) -> bool {
@@ -125,8 +87,8 @@ fn replay_record(
 ) -> Turn {
     let call = f.call;
     match call {
-        0 => read_image(image, held, f.x, f.length),
-        4 => repeat(image, held, f.x, f.y),
+        0 => image_turn(piece::read(image, held, f.x, f.length)),
+        4 => image_turn(piece::repeat(image, held, f.x, f.y)),
         1..=3 | 5..=255 => replay_call(f, image, held, answer, out),
     }
 }
@@ -137,7 +99,7 @@ fn replay_next(image: &mut [u8], held: usize, answer: &mut [u8], out: &mut [u8])
     if got < HEAD {
         return Turn::Ended(got);
     }
-    replay_record(fields_of(&head), image, held, answer, out)
+    replay_record(piece::fields_of(&head), image, held, answer, out)
 }
 
 fn count(counts: &mut [u64], call: u8, stop: u8, agreed: bool) {

@@ -5,193 +5,17 @@
 //! The checks are written anew, here and in the library's `vectors`, from the papers alone.
 //! Every effective range, and whether two ranges meet, comes from the originals.
 use oracle::vectors::{
-    all_ranges, included, key_of, kind_of, pass, Chance, Checked, Family, Reader, Stop,
-    BUFFER_CEILING, KEY_CEILING,
+    all_ranges, check_4, check_5, check_6, check_7, descends, from_to, image, included, key_of,
+    kind_of, read_image, record, run, since, until, view, write_image, Chance, Checked, Family,
+    Field, Mark, Placed, PlacedRun, Stop, BUFFER_CEILING, HEAD, KEY_CEILING, SIZE_CEILING,
 };
 use oracle::{Bound, Giver, Key, Range, Run, Table, View};
 use std::collections::{BTreeMap, HashMap, HashSet};
 use std::fmt::Write as _;
 use std::io::Write;
 
-/// The length of a record's head.
-const HEAD: usize = 20;
 /// The length of the longest image, answer and lent buffer that can be replayed.
 const REPLAY_CEILING: usize = 131_072;
-const RUN_CEILING: u8 = 64;
-const VIEW_CEILING: u16 = 1_024;
-const SIZE_CEILING: u128 = 1 << 53;
-
-// ---------------------------------------------------------------- checks 1 to 3
-
-/// A view, and the places of its keys in the image (0 where it has none).
-struct Placed {
-    view: View,
-    first: usize,
-    last: usize,
-    start: usize,
-    end: usize,
-}
-
-struct PlacedRun {
-    id: u32,
-    views: Vec<Placed>,
-}
-
-fn number(bytes: &[u8]) -> u64 {
-    bytes
-        .iter()
-        .fold(0, |sum, byte| sum << 8 | u64::from(*byte))
-}
-
-/// A key, and the place where it begins.
-fn read_key(reader: &mut Reader) -> Checked<(Key, usize)> {
-    let key = reader.key()?;
-    let at = reader.at() - key.len();
-    Ok((key, at))
-}
-
-/// A flag of 1 bit and 7 of padding.
-fn read_flag(reader: &mut Reader) -> Checked<bool> {
-    let byte = reader.take(1)?[0];
-    if byte & 0x7F != 0 {
-        return Err(2);
-    }
-    Ok(byte == 0x80)
-}
-
-fn read_id(reader: &mut Reader) -> Checked<[u8; 16]> {
-    Ok(reader.take(16)?.try_into().unwrap())
-}
-
-fn read_view(reader: &mut Reader) -> Checked<Placed> {
-    let id = read_id(reader)?;
-    let table_id = read_id(reader)?;
-    let index_offset = number(reader.take(8)?);
-    let index_len = number(reader.take(8)?);
-    let filter_offset = number(reader.take(8)?);
-    let has_last = read_flag(reader)?;
-    let (first, first_at) = read_key(reader)?;
-    let last = if has_last {
-        Some(read_key(reader)?)
-    } else {
-        None
-    };
-    let visible = if read_flag(reader)? {
-        Some(reader.range()?)
-    } else {
-        None
-    };
-    // The end key is the last field, and the start key comes before its length.
-    let (mut start, mut end) = (0, 0);
-    if let Some(range) = &visible {
-        let mut at = reader.at();
-        if let Some(key) = key_of(&range.1) {
-            end = at - key.len();
-            at = end - 2;
-        }
-        if let Some(key) = key_of(&range.0) {
-            start = at - key.len();
-        }
-    }
-    let last_at = last.as_ref().map_or(0, |(_, at)| *at);
-    Ok(Placed {
-        view: View {
-            id,
-            table: Table {
-                id: table_id,
-                index_offset,
-                index_len,
-                filter_offset,
-                first,
-                last: last.map(|(key, _)| key),
-            },
-            visible,
-        },
-        first: first_at,
-        last: last_at,
-        start,
-        end,
-    })
-}
-
-fn read_run(reader: &mut Reader) -> Checked<PlacedRun> {
-    let id = number(reader.take(4)?) as u32;
-    // 12 bits, then 4 of padding: the count is checked first.
-    let count = number(reader.take(2)?) as u16;
-    if count >> 4 > VIEW_CEILING {
-        return Err(3);
-    }
-    if count & 15 != 0 {
-        return Err(2);
-    }
-    let views = (0..count >> 4).map(|_| read_view(reader));
-    Ok(PlacedRun {
-        id,
-        views: views.collect::<Checked<_>>()?,
-    })
-}
-
-fn read_image(buffer: &[u8]) -> Checked<Vec<PlacedRun>> {
-    let mut reader = Reader::new(buffer)?;
-    let count = reader.take(1)?[0];
-    if count > RUN_CEILING {
-        return Err(3);
-    }
-    let runs = (0..count).map(|_| read_run(&mut reader));
-    let runs = runs.collect::<Checked<Vec<_>>>()?;
-    reader.end()?;
-    Ok(runs)
-}
-
-// ---------------------------------------------------------------- checks 4 to 7
-
-fn check_4(view: &View) -> Checked<()> {
-    view.visible.as_ref().map_or(Ok(()), pass)
-}
-
-/// Of a view that passes check 4.
-fn check_5(view: &View) -> Checked<()> {
-    let table = &view.table;
-    if table.last.as_ref().is_some_and(|last| *last < table.first) {
-        return Err(5);
-    }
-    if let Some(visible) = &view.visible {
-        let own = oracle::own_range(table).unwrap();
-        if kind_of(&visible.0) == 2 || oracle::intersect(&own, visible).is_none() {
-            return Err(5);
-        }
-    }
-    Ok(())
-}
-
-fn check_6(image: &[PlacedRun]) -> Checked<()> {
-    for run in image {
-        let starts: Vec<Bound> = run
-            .views
-            .iter()
-            .map(|placed| oracle::effective_range(&placed.view).unwrap().0)
-            .collect();
-        if starts
-            .windows(2)
-            .any(|pair| oracle::cmp_start(&pair[0], &pair[1]) > 0)
-        {
-            return Err(6);
-        }
-    }
-    let ids: HashSet<u32> = image.iter().map(|run| run.id).collect();
-    if ids.len() < image.len() {
-        return Err(6);
-    }
-    Ok(())
-}
-
-fn check_7(view: &View) -> Checked<()> {
-    let table = &view.table;
-    if u128::from(table.index_offset) + u128::from(table.index_len) > SIZE_CEILING {
-        return Err(7);
-    }
-    Ok(())
-}
 
 /// The image, if it passes the checks 1 to 7.
 fn check(buffer: &[u8]) -> Checked<Vec<PlacedRun>> {
@@ -208,7 +32,7 @@ fn check(buffer: &[u8]) -> Checked<Vec<PlacedRun>> {
     views().try_for_each(check_4)?;
     views().try_for_each(check_5)?;
     check_6(&image)?;
-    views().try_for_each(check_7)?;
+    views().try_for_each(|view| check_7(&view.table))?;
     Ok(image)
 }
 
@@ -340,156 +164,6 @@ fn answer(buffer: &[u8], checked: &Checked<Vec<PlacedRun>>, call: Call) -> Check
     }
 }
 
-// ---------------------------------------------------------------- images
-
-#[derive(Clone, Copy, Debug, PartialEq, Eq)]
-enum Field {
-    RunCount,
-    RunId,
-    ViewCount,
-    ViewId,
-    TableId,
-    IndexOffset,
-    IndexLen,
-    FilterOffset,
-    LastFlag,
-    FirstLength,
-    First,
-    LastLength,
-    Last,
-    VisibleFlag,
-    Head,
-    StartLength,
-    Start,
-    EndLength,
-    End,
-}
-
-/// Where a field begins. Counts and kinds share their byte with what follows them.
-#[derive(Clone, Copy)]
-struct Mark {
-    field: Field,
-    run: usize,
-    view: usize,
-    at: usize,
-}
-
-#[derive(Default)]
-struct Writer {
-    bytes: Vec<u8>,
-    marks: Vec<Mark>,
-    run: usize,
-    view: usize,
-}
-
-impl Writer {
-    fn put(&mut self, field: Field, bytes: &[u8]) {
-        self.marks.push(Mark {
-            field,
-            run: self.run,
-            view: self.view,
-            at: self.bytes.len(),
-        });
-        self.bytes.extend(bytes);
-    }
-
-    fn key(&mut self, length: Field, field: Field, key: &[u8]) {
-        self.put(length, &(key.len() as u16).to_be_bytes());
-        self.put(field, key);
-    }
-
-    fn view(&mut self, view: &View) {
-        let table = &view.table;
-        self.put(Field::ViewId, &view.id);
-        self.put(Field::TableId, &table.id);
-        self.put(Field::IndexOffset, &table.index_offset.to_be_bytes());
-        self.put(Field::IndexLen, &table.index_len.to_be_bytes());
-        self.put(Field::FilterOffset, &table.filter_offset.to_be_bytes());
-        self.put(Field::LastFlag, &[u8::from(table.last.is_some()) << 7]);
-        self.key(Field::FirstLength, Field::First, &table.first);
-        if let Some(last) = &table.last {
-            self.key(Field::LastLength, Field::Last, last);
-        }
-        self.put(Field::VisibleFlag, &[u8::from(view.visible.is_some()) << 7]);
-        if let Some((start, end)) = &view.visible {
-            self.put(Field::Head, &[kind_of(start) << 6 | kind_of(end) << 4]);
-            if let Some(key) = key_of(start) {
-                self.key(Field::StartLength, Field::Start, key);
-            }
-            if let Some(key) = key_of(end) {
-                self.key(Field::EndLength, Field::End, key);
-            }
-        }
-    }
-}
-
-/// An image's bytes and marks. A run count is cut to 8 bits, a view count to 12.
-fn write_image(runs: &[Run]) -> (Vec<u8>, Vec<Mark>) {
-    let mut writer = Writer::default();
-    writer.put(Field::RunCount, &[runs.len() as u8]);
-    for (place, run) in runs.iter().enumerate() {
-        writer.run = place;
-        writer.view = 0;
-        writer.put(Field::RunId, &run.id.to_be_bytes());
-        writer.put(
-            Field::ViewCount,
-            &((run.views.len() as u16) << 4).to_be_bytes(),
-        );
-        for (place, view) in run.views.iter().enumerate() {
-            writer.view = place;
-            writer.view(view);
-        }
-    }
-    (writer.bytes, writer.marks)
-}
-
-fn image(runs: &[Run]) -> Vec<u8> {
-    write_image(runs).0
-}
-
-fn view(number: u8, first: &[u8], last: Option<&[u8]>, visible: Option<Range>) -> View {
-    let mut id = [0; 16];
-    id[15] = number;
-    let mut view_id = [0xFE; 16];
-    view_id[0] = number;
-    View {
-        id: view_id,
-        table: Table {
-            id,
-            index_offset: 900 + u64::from(number),
-            index_len: 70,
-            filter_offset: 800,
-            first: first.to_vec(),
-            last: last.map(<[u8]>::to_vec),
-        },
-        visible,
-    }
-}
-
-fn run(id: u32, views: &[View]) -> Run {
-    Run {
-        id,
-        views: views.to_vec(),
-    }
-}
-
-/// A range that is unbounded below.
-fn until(end: &[u8]) -> Option<Range> {
-    Some((Bound::Unbounded, Bound::Included(end.to_vec())))
-}
-
-/// A range that is unbounded above.
-fn since(start: &[u8]) -> Option<Range> {
-    Some((Bound::Included(start.to_vec()), Bound::Unbounded))
-}
-
-fn from_to(start: &[u8], end: &[u8]) -> Range {
-    (
-        Bound::Included(start.to_vec()),
-        Bound::Excluded(end.to_vec()),
-    )
-}
-
 // ---------------------------------------------------------------- output
 
 struct Output<W: Write> {
@@ -508,11 +182,7 @@ struct Output<W: Write> {
 
 impl<W: Write> Output<W> {
     fn record(&mut self, call: u8, x: u64, y: u64, bytes: &[u8]) {
-        let mut record = vec![call];
-        record.extend(x.to_be_bytes());
-        record.extend(y.to_be_bytes());
-        record.extend(&u32::try_from(bytes.len()).unwrap().to_be_bytes()[1..]);
-        record.extend(bytes);
+        let record = record(call, x, y, bytes);
         self.bytes += record.len();
         self.to.write_all(&record).unwrap();
     }
@@ -718,8 +388,7 @@ fn view_class(view: &View) -> Vec<u8> {
     let mut class = vec![1, stop, u8::from(table.last.is_some())];
     if stop == 5 {
         let starts_excluded = view.visible.as_ref().map_or(0, |range| kind_of(&range.0)) == 2;
-        let descends = table.last.as_ref().is_some_and(|last| *last < table.first);
-        class.extend([u8::from(starts_excluded), u8::from(descends)]);
+        class.extend([u8::from(starts_excluded), u8::from(descends(table))]);
     }
     if let Some((start, end)) = &view.visible {
         class.extend([9, kind_of(start), kind_of(end)]);

@@ -1,18 +1,18 @@
--- `replay_images::repeat` is safe and ends: the image keeps its length, and the measure is what is left to write.
+-- `replay::repeat` is safe and ends: the buffer keeps its length, and the measure is what is left to write.
 -- Assumes nothing.
 use Rattle.replay.proofs.Parts.{lengths}
 use Prim.Native.Nat.{_≤_, _-_}
 use mathlib.Core.Path.{_≡_}
 use lib.ListN.{length}
 use borrow.Author.Needs.{needs}
-use Rattle.replay_images.proofs.repeat.Statement.{statement}
-use Rattle.replay_images.proofs.repeat.Tie as tie
+use Rattle.replay.proofs.piece.repeat.Statement.{statement}
+use Rattle.replay.proofs.piece.repeat.Tie as tie
 
 abbrev Inv-loop : tie.InvT-loop
-Inv-loop image₀ held to before i₀ image i = (held ≤ i) × (before ≤ held) × (length image ≡ length image₀)
+Inv-loop buffer₀ held to before i₀ buffer i = (held ≤ i) × (before ≤ held) × (length buffer ≡ length buffer₀)
 
 abbrev μ-loop : tie.MeasureT-loop
-μ-loop image₀ held to before i₀ image i = to - i
+μ-loop buffer₀ held to before i₀ buffer i = to - i
 
 returns : tie.Need-returns Inv-loop μ-loop
 returns c = search (needs, lengths)
@@ -29,8 +29,8 @@ sub-b c = search (needs, lengths)
 slice-read-b : tie.Need-slice-read-b Inv-loop μ-loop
 slice-read-b c = search (needs, lengths)
 
-slice-write-image : tie.Need-slice-write-image Inv-loop μ-loop
-slice-write-image c = search (needs, lengths)
+slice-write-buffer : tie.Need-slice-write-buffer Inv-loop μ-loop
+slice-write-buffer c = search (needs, lengths)
 
 add-i : tie.Need-add-i Inv-loop μ-loop
 add-i c = search (needs, lengths)
@@ -58,7 +58,7 @@ repeat-spec =
     loop-holds
     sub-b
     slice-read-b
-    slice-write-image
+    slice-write-buffer
     add-i
     loop-less
     loop-again

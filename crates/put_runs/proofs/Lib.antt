@@ -1,0 +1,3 @@
+pub mod RunExits
+pub mod LoopExits
+pub mod ImageExits
