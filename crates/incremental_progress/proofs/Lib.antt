@@ -31,3 +31,4 @@ pub mod Span
 pub mod Subtraction
 pub mod Vanish
 pub mod Views
+pub mod OutputIds

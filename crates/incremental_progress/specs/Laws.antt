@@ -10,7 +10,7 @@ use Rattle.records.specs.Values.{Table, Image, Part, Job}
 use Rattle.manifest.specs.Checks.{imageChecks, jobChecks}
 use Rattle.incremental_progress.specs.Intervals.{anyHolds}
 use Rattle.incremental_progress.specs.Parts.{intervals}
-use Rattle.incremental_progress.specs.Jobs.{commitRuns, LaterJob}
+use Rattle.incremental_progress.specs.Jobs.{isOutput, commitRuns, LaterJob}
 use Rattle.incremental_progress.specs.Checks.{plannedInOrder, outputsInOrder, retainedMeet}
 use Rattle.incremental_progress.specs.Draws.{Ten, got, fillCommit}
 use Rattle.incremental_progress.specs.Commit.{committed}
@@ -80,3 +80,7 @@ CommitsTwiceAlike =
     → markedOutcome new j ≡ answer twice
     → FillsImage twice again
     → FillsImage once again
+
+-- an output table is known by its id alone, in check 12 and where its views are replaced
+abbrev pub OutputsGoById : Type 0
+OutputsGoById = (ps : List Part) (t u : Table) → t .id ≡ u .id → isOutput ps t ≡ isOutput ps u

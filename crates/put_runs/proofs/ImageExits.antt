@@ -3,7 +3,7 @@
 use Prim.Native.Nat.{ℕ, _+_, _≤_}
 use native.Mathlib.Omega.{arith}
 use mathlib.Core.Path.{_≡_, refl, sym, ap, _∙_}
-use mathlib.Core.Bool.{Bool, true, false}
+use mathlib.Core.Bool.{true}
 use mathlib.Core.List.{List, _++_, flatMap, flatten}
 use lib.ListN.{length, drop}
 use lib.Dec.{T}
@@ -40,9 +40,9 @@ use Rattle.published.specs.Most.{Most}
 use Rattle.measured.specs.Measured.{runsFit, ImageSizedFound, outsOf, outsAt}
 use Rattle.measured.specs.declared.ImageSized.the-variants.{UsedUp}
 use Rattle.measured.specs.declared.JobSized.{JobSized}
-use Rattle.measured.proofs.Lengths.{image-length, Filled, filled}
+use Rattle.measured.proofs.Lengths.{image-length, filled}
 use Rattle.measured.proofs.ImageExits.{image-used, image-ids, image-ready}
-use Rattle.put_runs.specs.Runs.{imageOf, runsBytes, runsMade, imageMade, CommitReady, RunsReady, ImageReady}
+use Rattle.put_runs.specs.Runs.{imageOf, runsBytes, runsMade, imageMade, RunsReady, ImageReady}
 use Rattle.put_runs.proofs.LoopExits.{drawn-runs, runs-count}
 
 -- ---- put_rest

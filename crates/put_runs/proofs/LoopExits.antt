@@ -10,9 +10,9 @@ use lib.Seq.{drop-drop, drop-at}
 use lib.Dec.{T, leb}
 use borrow.Author.Tests.{leb-true}
 use Rattle.base.specs.Splice.{splice, splice-none, length-splice, splice-splice}
-use Rattle.format.specs.Got.{Got, got}
+use Rattle.format.specs.Got.{got}
 use Rattle.records.specs.Form.{readMany, writeMany}
-use Rattle.records.specs.Found.{isGot, valuesOf}
+use Rattle.records.specs.Found.{valuesOf}
 use Rattle.records.specs.Values.{View, Run, Job}
 use Rattle.records.specs.Layouts.{view, run, job}
 use Rattle.records.specs.Spans.{runHead, RunFound}

@@ -4,7 +4,7 @@ use Prim.Native.Nat.{ℕ, _+_, _-_, _*_, _^_, _≤_, _<_}
 use native.Mathlib.Omega.{arith}
 use mathlib.Core.Path.{_≡_, refl, sym, ap, _∙_}
 use mathlib.Core.Bool.{Bool, true, false}
-use mathlib.Core.List.{List, _++_, append-assoc, flatMap, flatten}
+use mathlib.Core.List.{List, _++_, append-assoc, flatMap}
 use lib.ListN.{length, drop, length-append}
 use lib.Dec.{T, eqb}
 use mir.Val.{Fits}
@@ -13,12 +13,12 @@ use borrow.Author.Tests.{eq-eqb, ne-eqb}
 use Rattle.base.specs.Bytes.{Bytes}
 use Rattle.comparable_range.specs.Range.{Range}
 use Rattle.base.specs.Splice.{splice, length-splice, splice-splice}
-use Rattle.format.specs.Got.{Got, got}
+use Rattle.format.specs.Got.{got}
 use Rattle.format.specs.Number.{writeNumber}
 use Rattle.format.proofs.Layouts.{number-length}
 use Rattle.records.specs.Form.{readMany}
-use Rattle.records.specs.Found.{isGot, valuesOf}
-use Rattle.records.specs.Values.{View, Job}
+use Rattle.records.specs.Found.{isGot}
+use Rattle.records.specs.Values.{View}
 use Rattle.records.specs.Layouts.{view, run, job}
 use Rattle.records.specs.Spans.{idsIn}
 use Rattle.records.proofs.Forms.{many-form, readMany-length}
@@ -26,9 +26,9 @@ use Rattle.records.proofs.RecordLayouts.{view-layout}
 use Rattle.manifest.specs.Checks.{has}
 use Rattle.db_state.specs.Spans.{Past}
 use Rattle.incremental_progress.specs.Parts.{intervals}
-use Rattle.incremental_progress.specs.Draws.{Ten, Drawn, used-up, next, supply, fillAll}
+use Rattle.incremental_progress.specs.Draws.{Ten, Drawn, used-up, next, supply}
 use Rattle.incremental_progress.specs.Draws as draws
-use Rattle.incremental_progress.specs.Gaps.{gaps, gapEntries, runGaps, placed, byGap, gapViews, fillParts}
+use Rattle.incremental_progress.specs.Gaps.{gapEntries, runGaps, placed, byGap, gapViews, fillParts}
 use Rattle.incremental_progress.proofs.Lists.{All}
 use Rattle.incremental_progress.proofs.FilledViews.{filled-length}
 use Rattle.incremental_progress.proofs.GapStarts.{gaps-length, run-gaps-bound}
@@ -41,13 +41,13 @@ use Rattle.pieces.specs.Entries.{keptViews, keptGaps, KeptTable}
 use Rattle.pieces.proofs.HeldExits.{read-bytes-are}
 use Rattle.kept.specs.Kept.{KeptFound}
 use Rattle.kept.specs.declared.views.KeptTo.{KeptTo}
-use Rattle.measured.specs.Measured.{outsOf, outsAt, JobReady}
+use Rattle.measured.specs.Measured.{outsOf, outsAt}
 use Rattle.measured.specs.declared.JobSized.{JobSized}
 use Rattle.measured.proofs.Placing.{placed-count}
 use Rattle.new_image.specs.Selected.{selected}
 use Rattle.new_image.specs.Destination.{keptPlaced, outputsOf, destinationBytes}
 use Rattle.new_image.proofs.SelectExits.{selected-all, views-long, gaps-long}
-use Rattle.put_runs.specs.Runs.{headBytes, newRun, runViews, cutViews, viewsAt, CommitReady, RunReady, RunPut, OtherReady, OtherPut}
+use Rattle.put_runs.specs.Runs.{headBytes, newRun, runViews, cutViews, viewsAt, RunReady, RunPut, OtherReady, OtherPut}
 use Rattle.put_runs.specs.declared.RunDone.{RunDone}
 
 -- ---- a run's bytes: its head, and its views
@@ -369,8 +369,6 @@ module _ {given task gap-table : List ℕ} {m : ℕ} {ids : List ℕ} {h : JobSi
             past-inside = x .past-inside;
             same = refl;
           }
-
-pub ruleset kept-exits = (run-inputs, run-place, run-most, run-there, run-within, run-pieces, run-head)
 
 pub ruleset source-exits = (run-inputs, run-place, run-most, run-there, run-within, run-pieces, run-head, source-drawn, source-few, source-count, source-table, source-room, source-put, source-same, source-done)
 

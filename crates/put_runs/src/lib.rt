@@ -16,14 +16,13 @@ ghost use Rattle.records.specs.Found.{isGot, valuesOf};
 ghost use Rattle.records.specs.Layouts.{view, run, image, job};
 ghost use Rattle.incremental_progress.specs.Parts.{intervals};
 ghost use Rattle.incremental_progress.specs.Draws.{supply};
-ghost use Rattle.incremental_progress.specs.Draws as draws;
-ghost use Rattle.incremental_progress.specs.Gaps.{gaps, gapRuns, gapCommit};
+ghost use Rattle.incremental_progress.specs.Gaps.{gaps, gapCommit};
 ghost use Rattle.drawn.specs.Supply.{isDrawn, viewsOf};
 ghost use Rattle.progress.specs.Spans.{jobIn};
 ghost use Rattle.progress.specs.Tables.{gapsIn};
 ghost use Rattle.pieces.specs.Held.{Inputs};
-ghost use Rattle.measured.specs.Measured.{runsFit, outsAt};
-ghost use Rattle.put_runs.specs.Runs.{imageOf, runsBytes, headBytes, newRun, runViews, cutViews, runsMade, CommitReady, RunReady, RunsReady, RunPut, viewsAt, OtherReady, OtherPut, imageMade, ImageReady};
+ghost use Rattle.measured.specs.Measured.{runsFit};
+ghost use Rattle.put_runs.specs.Runs.{imageOf, runsBytes, headBytes, newRun, runViews, cutViews, runsMade, RunReady, RunsReady, RunPut, viewsAt, OtherReady, OtherPut, imageMade, ImageReady};
 
 // The place past the run in out, the place in the supply after its draws, and the place past it in the old image.
 pub struct RunDone {
