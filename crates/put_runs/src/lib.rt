@@ -45,27 +45,27 @@ fn put_head(out: &mut [u8], to: usize, id: u64, count: usize) -> usize
 // A source: what is left of its views.
 fn put_source_run<'a>(
     given: &'a [u8],
-    first: usize,
+    at: usize,
     n: usize,
     id: u64,
     task: &'a [u8],
-    table: &[usize],
+    gaps: &[usize],
     m: usize,
     ids: &[u8],
     from: usize,
     h: JobSized,
-    entries: &mut [usize],
+    rows: &mut [usize],
     out: &mut [u8],
     to: usize,
 ) -> RunDone
-    requires { ⌜ RunReady (now given) (now task) (now table) m (now ids) h first n id from (now entries) (now out) to ⌝ ∗ ⌜ runViews (now given) (now task) (now ids) first n id from ≡ cutViews (now given) (now task) (now table) m (now ids) first n from ⌝ }
-    ensures { λ r. ⌜ RunPut (now (given .entry)) (now (ids .entry)) (readMany (view .read) n (drop first (now (given .entry)))) (runViews (now (given .entry)) (now (task .entry)) (now (ids .entry)) first n id from) id to (now (entries .entry)) (now (entries .exit)) r ⌝ }
-    ensures { λ r. ⌜ now (out .exit) ≡ splice (now (out .entry)) to (run .write (newRun id (viewsOf (runViews (now (given .entry)) (now (task .entry)) (now (ids .entry)) first n id from)))) ⌝ }
+    requires { ⌜ RunReady (now given) (now task) (now gaps) m (now ids) h at n id from (now rows) (now out) to ⌝ ∗ ⌜ runViews (now given) (now task) (now ids) at n id from ≡ cutViews (now given) (now task) (now gaps) m (now ids) at n from ⌝ }
+    ensures { λ r. ⌜ RunPut (now (given .entry)) (now (ids .entry)) (readMany (view .read) n (drop at (now (given .entry)))) (runViews (now (given .entry)) (now (task .entry)) (now (ids .entry)) at n id from) id to (now (rows .entry)) (now (rows .exit)) r ⌝ }
+    ensures { λ r. ⌜ now (out .exit) ≡ splice (now (out .entry)) to (run .write (newRun id (viewsOf (runViews (now (given .entry)) (now (task .entry)) (now (ids .entry)) at n id from)))) ⌝ }
 {
-    let k = kept::views_kept(given, first, n, task, table, m, ids, from, entries);
+    let k = kept::views_kept(given, at, n, task, gaps, m, ids, from, rows);
     let count = k.count;
     let a = put_head(out, to, id, count);
-    let b = new_image::put_selected(given, task, table, m, ids, entries, count, true, 0, out, a);
+    let b = new_image::put_selected(given, task, gaps, m, ids, rows, count, true, 0, out, a);
     RunDone {
         to: b,
         next: k.next,
@@ -76,28 +76,28 @@ fn put_source_run<'a>(
 // The destination: what is left of its views, and the outputs between them.
 fn put_destination_run<'a>(
     given: &'a [u8],
-    first: usize,
+    at: usize,
     n: usize,
     id: u64,
     task: &'a [u8],
-    table: &[usize],
+    gaps: &[usize],
     m: usize,
     ids: &[u8],
     from: usize,
     h: JobSized,
-    entries: &mut [usize],
+    rows: &mut [usize],
     out: &mut [u8],
     to: usize,
 ) -> RunDone
-    requires { ⌜ RunReady (now given) (now task) (now table) m (now ids) h first n id from (now entries) (now out) to ⌝ ∗ ⌜ id ≡ h .destination ⌝ }
-    ensures { λ r. ⌜ RunPut (now (given .entry)) (now (ids .entry)) (readMany (view .read) n (drop first (now (given .entry)))) (runViews (now (given .entry)) (now (task .entry)) (now (ids .entry)) first n id from) id to (now (entries .entry)) (now (entries .exit)) r ⌝ }
-    ensures { λ r. ⌜ now (out .exit) ≡ splice (now (out .entry)) to (run .write (newRun id (viewsOf (runViews (now (given .entry)) (now (task .entry)) (now (ids .entry)) first n id from)))) ⌝ }
+    requires { ⌜ RunReady (now given) (now task) (now gaps) m (now ids) h at n id from (now rows) (now out) to ⌝ ∗ ⌜ id ≡ h .destination ⌝ }
+    ensures { λ r. ⌜ RunPut (now (given .entry)) (now (ids .entry)) (readMany (view .read) n (drop at (now (given .entry)))) (runViews (now (given .entry)) (now (task .entry)) (now (ids .entry)) at n id from) id to (now (rows .entry)) (now (rows .exit)) r ⌝ }
+    ensures { λ r. ⌜ now (out .exit) ≡ splice (now (out .entry)) to (run .write (newRun id (viewsOf (runViews (now (given .entry)) (now (task .entry)) (now (ids .entry)) at n id from)))) ⌝ }
 {
-    let k = kept::views_kept(given, first, n, task, table, m, ids, from, entries);
+    let k = kept::views_kept(given, at, n, task, gaps, m, ids, from, rows);
     let count = k.count;
     let views = h.views;
     let a = put_head(out, to, id, count + views);
-    let b = new_image::put_destination(given, task, table, m, ids, entries, count, out, a);
+    let b = new_image::put_destination(given, task, gaps, m, ids, rows, count, out, a);
     RunDone {
         to: b,
         next: k.next,
@@ -132,61 +132,33 @@ fn put_other_run(
 // The run with an id, whose n views are there, as the commit leaves it.
 fn put_run<'a>(
     given: &'a [u8],
-    first: usize,
+    at: usize,
     n: usize,
     id: u64,
     task: &'a [u8],
-    table: &[usize],
+    gaps: &[usize],
     m: usize,
     ids: &[u8],
     from: usize,
     h: JobSized,
-    entries: &mut [usize],
+    rows: &mut [usize],
     out: &mut [u8],
     to: usize,
 ) -> RunDone
-    requires { ⌜ RunReady (now given) (now task) (now table) m (now ids) h first n id from (now entries) (now out) to ⌝ }
-    ensures { λ r. ⌜ RunPut (now (given .entry)) (now (ids .entry)) (readMany (view .read) n (drop first (now (given .entry)))) (runViews (now (given .entry)) (now (task .entry)) (now (ids .entry)) first n id from) id to (now (entries .entry)) (now (entries .exit)) r ⌝ }
-    ensures { λ r. ⌜ now (out .exit) ≡ splice (now (out .entry)) to (run .write (newRun id (viewsOf (runViews (now (given .entry)) (now (task .entry)) (now (ids .entry)) first n id from)))) ⌝ }
+    requires { ⌜ RunReady (now given) (now task) (now gaps) m (now ids) h at n id from (now rows) (now out) to ⌝ }
+    ensures { λ r. ⌜ RunPut (now (given .entry)) (now (ids .entry)) (readMany (view .read) n (drop at (now (given .entry)))) (runViews (now (given .entry)) (now (task .entry)) (now (ids .entry)) at n id from) id to (now (rows .entry)) (now (rows .exit)) r ⌝ }
+    ensures { λ r. ⌜ now (out .exit) ≡ splice (now (out .entry)) to (run .write (newRun id (viewsOf (runViews (now (given .entry)) (now (task .entry)) (now (ids .entry)) at n id from)))) ⌝ }
 {
     let destination = h.destination;
     let place = h.from;
     let sources = h.sources;
     if id == destination {
-        return put_destination_run(
-            given,
-            first,
-            n,
-            id,
-            task,
-            table,
-            m,
-            ids,
-            from,
-            h,
-            entries,
-            out,
-            to,
-        );
+        return put_destination_run(given, at, n, id, task, gaps, m, ids, from, h, rows, out, to);
     }
     if compactor_state::is_source(task, place, sources, id) {
-        return put_source_run(
-            given,
-            first,
-            n,
-            id,
-            task,
-            table,
-            m,
-            ids,
-            from,
-            h,
-            entries,
-            out,
-            to,
-        );
+        return put_source_run(given, at, n, id, task, gaps, m, ids, from, h, rows, out, to);
     }
-    put_other_run(given, first, n, id, from, out, to)
+    put_other_run(given, at, n, id, from, out, to)
 }
 
 // The new runs of n that are there; draws begin at a place of the supply.
@@ -195,16 +167,16 @@ fn put_runs<'a>(
     first: usize,
     n: usize,
     task: &'a [u8],
-    table: &[usize],
+    gaps: &[usize],
     m: usize,
     ids: &[u8],
     from: usize,
     h: JobSized,
-    entries: &mut [usize],
+    rows: &mut [usize],
     out: &mut [u8],
     start: usize,
 )
-    requires { ⌜ RunsReady (now given) (now task) (now table) m (now ids) h first n from (now entries) (now out) start ⌝ }
+    requires { ⌜ RunsReady (now given) (now task) (now gaps) m (now ids) h first n from (now rows) (now out) start ⌝ }
     ensures { λ _. ⌜ now (out .exit) ≡ splice (now (out .entry)) start (runsBytes (imageOf (runsMade (now (given .entry)) (now (task .entry)) (now (ids .entry)) first n from))) ⌝ }
 {
     let mut seen = 0;
@@ -218,24 +190,10 @@ fn put_runs<'a>(
             }
             RunRead::At {
                 id,
-                views,
-                next: place,
+                views: k,
+                next: p,
             } => {
-                let r = put_run(
-                    given,
-                    place,
-                    views,
-                    id,
-                    task,
-                    table,
-                    m,
-                    ids,
-                    next,
-                    h,
-                    entries,
-                    out,
-                    to,
-                );
+                let r = put_run(given, p, k, id, task, gaps, m, ids, next, h, rows, out, to);
                 to = r.to;
                 next = r.next;
                 at = r.past;
