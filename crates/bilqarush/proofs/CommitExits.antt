@@ -25,25 +25,11 @@ use Rattle.manifest.specs.Spans.{outcomeFault, judgedWhole, JudgedWhole}
 use Rattle.manifest.specs.declared.images.Judged.{Judged}
 use Rattle.manifest.specs.declared.images.Judged.the-variants.{At as JudgedAt, Stop as JudgedStop}
 use Rattle.manifest.proofs.Steps.{least-joined, fault-stops, fault-passes}
-use Rattle.manifest.proofs.Given.{Whole, whole-read}
+use Rattle.manifest.proofs.Given.{Whole, whole-read, Numbered, numbered, stopped-is}
 use Rattle.progress.specs.Spans.{jobIn}
 use Rattle.incremental_progress.specs.Commit.{committed, commitOutcome}
 use Rattle.apply.specs.Stages.{Passed, Read, applied, appliedOutcome}
 use Rattle.apply.proofs.StageLaws.{committed-is}
-
--- ---- what an answer with a number says
-record Numbered {A : Type 0} (checks : A → Checks) (o : Outcome A) (fault : ℕ) : Type 0 where
-  value : A
-  is : o ≡ answer value
-  fault-is : fault ≡ faultOf (checks value)
-
-numbered : {A : Type 0} (checks : A → Checks) (o : Outcome A) (fault : ℕ) → answer fault ≡ outcomeFault checks o → Numbered checks o fault
-numbered checks (answer a) fault e = record { value = a; is = refl; fault-is = cc }
-numbered checks (outcome.stop k) fault e = absurd (let z : _≡_ {A = ℕ} 0 1 = cc in omega arith)
-
-stopped-is : {A : Type 0} (checks : A → Checks) (o : Outcome A) (k : ℕ) → outcome.stop k ≡ outcomeFault checks o → o ≡ outcome.stop k
-stopped-is checks (answer a) k e = absurd (let z : _≡_ {A = ℕ} 0 1 = cc in omega arith)
-stopped-is checks (outcome.stop j) k e = let z : j ≡ k = cc in ap outcome.stop z
 
 -- no check fails where the number is 8
 record AllPass (c : Checks) : Type 0 where

@@ -25,7 +25,7 @@ use Rattle.manifest.proofs.Given.{not-read, refused, accepted, image-there}
 use Rattle.db_state.specs.Places.{viewGiven}
 use Rattle.db_state.specs.Spans.{viewOutcome, ViewPlaced}
 use Rattle.listing.specs.Listing.{listing}
-use Rattle.bilqarush.specs.ImageCalls.{checkImageOutcome, compactedEffectiveRangeOutcome, viewRangeAnswer, listOutcome}
+use Rattle.bilqarush.specs.ImageCalls.{checkImageOutcome, compactedEffectiveRangeOutcome, ViewRangeFound, listOutcome}
 use Rattle.bilqarush.specs.declared.images.ViewRange.the-variants.{At, Stop as RangeStop}
 
 -- ---- check_image
@@ -47,17 +47,21 @@ pub ruleset check-exits = (unread, failing, passing)
 
 -- ---- compacted_effective_range
 module _ (s : List ℕ) (run-place place : ℕ) {r : ViewRead} (x : ViewPlaced s (viewGiven s run-place place) r) where
-  pub not-placed : {k : ℕ} → r ≡ ViewStop k → viewRangeAnswer s (RangeStop k) ≡ compactedEffectiveRangeOutcome s run-place place
+  pub not-placed : {k : ℕ} → r ≡ ViewStop k → ViewRangeFound s (compactedEffectiveRangeOutcome s run-place place) (RangeStop k)
   unfolding compactedEffectiveRangeOutcome
-  not-placed q = rw (← (x .meaning), q)
+  not-placed q = record { meaning = rw (← (x .meaning), q); inside = tt }
 
   module _ {v : ViewSpan} {next : ℕ} (q : r ≡ ViewAt v next) where
     pub placed-inside : ViewInside s v
     placed-inside = (rw q at (x .inside)) .0
 
-    pub range-of : {e : RangeSpan} → EffectiveFound s v e → viewRangeAnswer s (At (e .start) (e .end)) ≡ compactedEffectiveRangeOutcome s run-place place
+    pub range-of : {e : RangeSpan} → EffectiveFound s v e → ViewRangeFound s (compactedEffectiveRangeOutcome s run-place place) (At (e .start) (e .end))
     unfolding compactedEffectiveRangeOutcome
-    range-of {e} y = ap answer (y .meaning) ∙ sym (ap (λ o. andThen o (λ v. answer (effective v))) (sym (x .meaning) ∙ ap (viewOutcome s) q))
+    range-of {e} y =
+        record {
+          meaning = ap answer (y .meaning) ∙ sym (ap (λ o. andThen o (λ v. answer (effective v))) (sym (x .meaning) ∙ ap (viewOutcome s) q));
+          inside = (y .start, y .end);
+        }
 
 pub ruleset effective-exits = (not-placed, placed-inside, range-of)
 

@@ -1,10 +1,11 @@
 -- The outcome of each public call on an image: the checks in their order, then the answer. Document 01, "Images",
 -- "Lookup" and the program `runlist`. And what the calls' answers mean.
 use Prim.Native.Nat.{ℕ}
+use mathlib.Core.Path.{_≡_}
 use mathlib.Core.List.{List}
 use Rattle.base.specs.Outcome.{Outcome, stop, answer, andThen, writtenTo}
 use Rattle.comparable_range.specs.Range.{Range}
-use Rattle.format.specs.Range.{rangeIn}
+use Rattle.format.specs.Range.{rangeIn, BoundInside}
 use Rattle.manifest.specs.Ranges.{effective}
 use Rattle.manifest.specs.Checks.{imageGiven}
 use Rattle.db_state.specs.Places.{viewGiven}
@@ -30,6 +31,14 @@ compactedEffectiveRangeOutcome l run view = andThen (viewGiven l run view) (λ v
 abbrev pub viewRangeAnswer : List ℕ → ViewRange → Outcome Range
 viewRangeAnswer l (At start end) = answer (rangeIn l start end)
 viewRangeAnswer l (RangeStop n) = stop n
+
+abbrev pub ViewRangeInside : List ℕ → ViewRange → Type 0
+ViewRangeInside l (At start end) = BoundInside l start × BoundInside l end
+ViewRangeInside l (RangeStop n) = Unit
+
+pub record ViewRangeFound (l : List ℕ) (g : Outcome Range) (r : ViewRange) : Type 0 where
+  pub meaning : viewRangeAnswer l r ≡ g
+  pub inside : ViewRangeInside l r
 
 -- the listing, into a buffer of `room` bytes
 unfoldable pub listOutcome : List ℕ → ℕ → Outcome (List ℕ)

@@ -6,7 +6,7 @@ use records::ViewRead;
 ghost use mathlib.Core.Path.{_≡_};
 ghost use lib.ListN.{length};
 ghost use Rattle.base.specs.Outcome.{lent, reported};
-ghost use Rattle.bilqarush.specs.ImageCalls.{checkImageOutcome, checkedAnswer, compactedEffectiveRangeOutcome, viewRangeAnswer, listOutcome};
+ghost use Rattle.bilqarush.specs.ImageCalls.{checkImageOutcome, checkedAnswer, compactedEffectiveRangeOutcome, ViewRangeFound, listOutcome};
 
 pub enum Checked {
     Accepted,
@@ -36,7 +36,7 @@ pub enum ViewRange {
 
 // The effective range of a view, which is called by its place in the run that is called by its place; both count from 0.
 pub fn compacted_effective_range(image: &[u8], run: usize, view: usize) -> ViewRange
-    ensures { λ r. ⌜ viewRangeAnswer (now (image .entry)) r ≡ compactedEffectiveRangeOutcome (now (image .entry)) run view ⌝ }
+    ensures { λ r. ⌜ ViewRangeFound (now (image .entry)) (compactedEffectiveRangeOutcome (now (image .entry)) run view) r ⌝ }
 {
     match db_state::view_given(image, run, view) {
         ViewRead::Stop(k) => ViewRange::Stop(k),

@@ -15,7 +15,7 @@ use Rattle.comparable_range.specs.declared.Kind.the-variants.{Unbounded, Includ
 use Rattle.format.specs.Key.{writeKey}
 use Rattle.format.specs.Range.{writeBound}
 use Rattle.bytes_range.specs.Prefix.{keptOf, joinStart, joinEnd}
-use Rattle.bytes_range.proofs.Joins.{written-none, written-in, written-ex, start-free, start-bare, start-in, start-ex, end-free, end-in, end-ex, end-next, kept-le, kept-last}
+use Rattle.bytes_range.proofs.Joins.{written-none, written-in, written-ex, start-free, start-bare, start-in, start-ex, end-free, end-in, end-ex, end-next, kept-free, kept-le, kept-last}
 
 -- ---- put_start, put_end: a key is put where the bound is that key, and nothing where it has none
 module _ (p s : Key) {k : Kind} where
@@ -74,7 +74,7 @@ module _ (p s : Key) {k : Kind} (h : k ≡ Unbounded) where
   pub next-put : (d : List ℕ) (at : ℕ) {f : List ℕ} → f ≡ splice d at (writeBound (joinEnd p unbounded)) → f ≡ splice d at (writeBound (joinEnd p (boundOf k s)))
   next-put d at l = rw h l
 
-pub ruleset put-exits = (bare-written, in-written, ex-written, end-in-written, end-ex-written, bare-within, room-for, place-past, bound-put, free-past, free-put, end-free-past, end-free-put, next-room, next-past, next-put, spliced-length)
+pub ruleset put-exits = (kept-free, bare-written, in-written, ex-written, end-in-written, end-ex-written, bare-within, room-for, place-past, bound-put, free-past, free-put, end-free-past, end-free-put, next-room, next-past, next-put, spliced-length)
 
 -- ---- put_next
 module _ (p : Key) {n : ℕ} (q : n ≡ keptOf p (length p)) (z : n ≡ 0 → ⊥) where

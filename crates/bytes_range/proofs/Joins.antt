@@ -12,7 +12,7 @@ use lib.Seq.{length-take-le}
 use lib.Dec.{eqb}
 use mir.Val.{Fits}
 use mir.Syntax.{w64}
-use borrow.Author.Tests.{eq-eqb, ne-eqb, eqb-false, leb-true}
+use borrow.Author.Tests.{ne-eqb, eqb-false, leb-true}
 use Rattle.base.specs.Pick.{pick}
 use Rattle.key.specs.Order.{Key}
 use Rattle.comparable_range.specs.Range.{Bound, unbounded, included, excluded, boundOf}
@@ -22,19 +22,15 @@ use Rattle.format.specs.Key.{writeKey}
 use Rattle.format.specs.Range.{kindOfBound, writeBound}
 use Rattle.format.proofs.Layouts.{key-length}
 use Rattle.bytes_range.specs.Prefix.{keptOf, raised, nextPrefix, joinStart, joinEnd}
-use Rattle.bytes_range.specs.Writing.{joinsWithin}
+use Rattle.bytes_range.specs.Writing.{keptFor, joinsWithin}
 
 -- ---- kept: n is 0 or one more
 pub none-left : (p : List ℕ) {n : ℕ} → n ≡ 0 → 0 ≡ keptOf p n
 unfolding keptOf
 none-left p e = rw e
 
-pub dropped : (p : List ℕ) (n : ℕ) {r : ℕ} → (n ≡ 0 → ⊥) → getD p (n - 1) 0 ≡ 255 → r ≡ keptOf p (n - 1) → r ≡ keptOf p n
-unfolding keptOf
-dropped p zero h e q = absurd (h refl)
-dropped p (suc m) h e q =
-    let z : suc m - 1 ≡ m = omega arith in
-    rw (eq-eqb _ _ (rw z at e)) (rw z at q)
+pub fewer-left : (p : List ℕ) (m n : ℕ) {r : ℕ} → keptOf p m ≡ keptOf p n → r ≡ keptOf p m → r ≡ keptOf p n
+fewer-left p m n e q = q ∙ e
 
 pub kept-here : (p : List ℕ) (n : ℕ) → (n ≡ 0 → ⊥) → (getD p (n - 1) 0 ≡ 255 → ⊥) → n ≡ keptOf p n
 unfolding keptOf
@@ -43,7 +39,27 @@ kept-here p (suc m) h e =
     let z : suc m - 1 ≡ m = omega arith in
     rw (ne-eqb _ _ (rw z at e))
 
-pub ruleset kept-exits = (none-left, dropped, kept-here)
+pub ruleset kept-exits = (none-left, fewer-left, kept-here)
+
+-- ---- kept_for, and what its answer says of an unbounded end
+module _ (p : Key) (k : Kind) where
+  pub kept-all : {n : ℕ} → k ≡ Unbounded → n ≡ keptOf p (length p) → n ≡ keptFor k p
+  unfolding keptFor
+  kept-all h q = rw h q
+
+  pub kept-in : k ≡ Included → 0 ≡ keptFor k p
+  unfolding keptFor
+  kept-in h = rw h
+
+  pub kept-ex : k ≡ Excluded → 0 ≡ keptFor k p
+  unfolding keptFor
+  kept-ex h = rw h
+
+  pub kept-free : {n : ℕ} → k ≡ Unbounded → n ≡ keptFor k p → n ≡ keptOf p (length p)
+  unfolding keptFor
+  kept-free h q = rw h at q
+
+pub ruleset kept-for-exits = (kept-all, kept-in, kept-ex)
 
 -- what is kept is within the prefix, and its last byte is not FF
 pub kept-le : (p : List ℕ) (n : ℕ) → keptOf p n ≤ n
@@ -167,27 +183,30 @@ pub ruleset start-exits = (kind-free, kind-bare, kind-in, kind-ex, size-free, si
 
 -- ---- end_kind, end_size
 module _ (p e : Key) {k : Kind} where
-  module _ (h : k ≡ Unbounded) {n : ℕ} (q : n ≡ keptOf p (length p)) where
+  module _ (h : k ≡ Unbounded) {n : ℕ} (f : n ≡ keptFor k p) where
+    counted : n ≡ keptOf p (length p)
+    counted = kept-free p k h f
+
     pub end-kind-free : n ≡ 0 → Unbounded ≡ kindOfBound (joinEnd p (boundOf k e))
-    end-kind-free z = sym (ap kindOfBound (end-free p e h q z))
+    end-kind-free z = sym (ap kindOfBound (end-free p e h counted z))
 
     next-end : (n ≡ 0 → ⊥) → joinEnd p (boundOf k e) ≡ excluded (take (n - 1) p ++ ((getD p (n - 1) 0 + 1) ∷ []))
-    next-end z = rw h (end-next p q z)
+    next-end z = rw h (end-next p counted z)
 
     pub end-kind-next : (n ≡ 0 → ⊥) → Excluded ≡ kindOfBound (joinEnd p (boundOf k e))
     end-kind-next z = sym (ap kindOfBound (next-end z))
 
     pub end-size-free : n ≡ 0 → 0 ≡ length (writeBound (joinEnd p (boundOf k e)))
-    end-size-free z = sym (ap length (written-none _ (end-free p e h q z)))
+    end-size-free z = sym (ap length (written-none _ (end-free p e h counted z)))
 
     pub end-size-next : (n ≡ 0 → ⊥) → 2 + n ≡ length (writeBound (joinEnd p (boundOf k e)))
     end-size-next z =
         sym (ap length (written-ex _ _ (next-end z))
         ∙ size-joined (take (n - 1) p) ((getD p (n - 1) 0 + 1) ∷ [])
-        ∙ rw (length-take-le (n - 1) p (omega (arith, q, kept-le p (length p)))) (omega (arith, z)))
+        ∙ rw (length-take-le (n - 1) p (omega (arith, counted, kept-le p (length p)))) (omega (arith, z)))
 
     pub kept-fits : length p ≤ 1024 → Fits w64 (2 + n)
-    kept-fits l = omega (arith, q, kept-le p (length p))
+    kept-fits l = omega (arith, counted, kept-le p (length p))
 
   pub end-kind-in : k ≡ Included → Included ≡ kindOfBound (joinEnd p (boundOf k e))
   end-kind-in h = sym (ap kindOfBound (end-in p e h))
@@ -201,7 +220,7 @@ module _ (p e : Key) {k : Kind} where
   pub end-size-ex : k ≡ Excluded → 2 + length p + length e ≡ length (writeBound (joinEnd p (boundOf k e)))
   end-size-ex h = sym (ap length (written-ex _ (p ++ e) (end-ex p e h)) ∙ size-joined p e)
 
-pub ruleset end-exits = (end-kind-free, end-kind-next, end-size-free, end-size-next, kept-fits, end-kind-in, end-kind-ex, end-size-in, end-size-ex)
+pub ruleset end-exits = (kept-free, end-kind-free, end-kind-next, end-size-free, end-size-next, kept-fits, end-kind-in, end-kind-ex, end-size-in, end-size-ex)
 
 -- ---- lengths that join fit
 pub kept-small : (p : Key) {n : ℕ} → n ≡ keptOf p (length p) → length p ≤ 1024 → 2 + n ≤ 1026

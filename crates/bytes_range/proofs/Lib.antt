@@ -3,6 +3,7 @@ pub mod Begins
 pub mod PrefixLaws
 pub mod Points
 pub mod Joins
+pub mod Dropped
 pub mod JoinPut
 pub mod JoinTests
 pub mod RangePut

@@ -2,15 +2,28 @@
 use Prim.Native.Nat.{ℕ, _+_}
 use mathlib.Core.Bool.{Bool, true, false, _&&_}
 use mathlib.Core.Option.{Option, none, some}
-use mathlib.Core.List.{List, []}
+use mathlib.Core.List.{List, [], _∷_}
 use lib.ListN.{length}
-use lib.Dec.{leb}
+use lib.Dec.{eqb, leb}
 use Rattle.key.specs.Order.{Key}
 use Rattle.comparable_range.specs.Range.{Bound, unbounded, included, excluded, Range, of, nonEmpty}
+use Rattle.comparable_range.specs.declared.Kind.{Kind}
+use Rattle.comparable_range.specs.declared.Kind.the-variants.{Unbounded, Included, Excluded}
 use Rattle.format.specs.Range.{BoundInside, boundIn, writeRange}
 use Rattle.base.specs.Outcome.{Outcome, check, writtenTo}
-use Rattle.bytes_range.specs.Prefix.{fromPrefixAndSubrange}
+use Rattle.bytes_range.specs.Prefix.{keptOf, fromPrefixAndSubrange}
 use Rattle.bytes_range.specs.declared.span.Supplied.{Supplied}
+
+-- every byte is FF
+unfoldable pub allFF : List ℕ → Bool
+allFF [] = true
+allFF (b ∷ l) = eqb b 255 && allFF l
+
+-- how many bytes of a prefix are kept for an unbounded end; an end with a key is not made of them
+unfoldable pub keptFor : Kind → Key → ℕ
+keptFor Unbounded p = keptOf p (length p)
+keptFor Included p = 0
+keptFor Excluded p = 0
 
 -- a bound's key follows the prefix within 1,024 bytes
 unfoldable pub joinsWithin : Key → Bound → Bool

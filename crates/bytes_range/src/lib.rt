@@ -4,18 +4,77 @@ pub mod span;
 use base::Written;
 use comparable_range::Kind;
 ghost use mathlib.Core.Path.{_≡_};
-ghost use Prim.Native.Nat.{_≤_, _+_};
-ghost use lib.ListN.{length};
+ghost use Prim.Native.Nat.{_≤_, _<_, _+_, _-_};
+ghost use lib.ListN.{length, getD, take, drop};
 ghost use mathlib.Core.Bool.{true};
 ghost use Rattle.base.specs.Outcome.{reported, lent, writtenTo};
 ghost use Rattle.base.specs.Splice.{splice};
 ghost use Rattle.comparable_range.specs.Range.{unbounded, boundOf, rangeOf};
 ghost use Rattle.format.specs.Range.{kindOfBound, writeBound, writeRange};
 ghost use Rattle.bytes_range.specs.Prefix.{keptOf, joinStart, joinEnd, fromPrefixAndSubrange, asPoint};
-ghost use Rattle.bytes_range.specs.Writing.{joinsWithin, pointIf};
+ghost use Rattle.bytes_range.specs.Writing.{allFF, keptFor, joinsWithin, pointIf};
 ghost use Rattle.bytes_range.specs.Laws.{leavesNone};
 
+// Whether the eight bytes from i are all FF. Their number tells, which the compiler reads by one load.
+fn ff8(p: &[u8], i: usize) -> bool
+    requires { ⌜ i + 8 ≤ length (now p) ⌝ }
+    ensures { λ r. ⌜ r ≡ allFF (take 8 (drop i (now (p .entry)))) ⌝ }
+{
+    key::reversed(p, i) == 18446744073709551615
+}
+
+// The same of sixteen, thirty-two and sixty-four bytes, by halves.
+fn ff16(p: &[u8], i: usize) -> bool
+    requires { ⌜ i + 16 ≤ length (now p) ⌝ }
+    ensures { λ r. ⌜ r ≡ allFF (take 16 (drop i (now (p .entry)))) ⌝ }
+{
+    if ff8(p, i) {
+        return ff8(p, i + 8);
+    }
+    false
+}
+
+fn ff32(p: &[u8], i: usize) -> bool
+    requires { ⌜ i + 32 ≤ length (now p) ⌝ }
+    ensures { λ r. ⌜ r ≡ allFF (take 32 (drop i (now (p .entry)))) ⌝ }
+{
+    if ff16(p, i) {
+        return ff16(p, i + 16);
+    }
+    false
+}
+
+fn ff64(p: &[u8], i: usize) -> bool
+    requires { ⌜ i + 64 ≤ length (now p) ⌝ }
+    ensures { λ r. ⌜ r ≡ allFF (take 64 (drop i (now (p .entry)))) ⌝ }
+{
+    if ff32(p, i) {
+        return ff32(p, i + 32);
+    }
+    false
+}
+
+// Of n bytes that end in FF, how many are left once the last sixty-four, eight or one are dropped, which are all FF.
+fn fewer(p: &[u8], n: usize) -> usize
+    requires { ⌜ n ≤ length (now p) ⌝ ∗ ⌜ (n ≡ 0 → ⊥) ⌝ ∗ ⌜ getD (now p) (n - 1) 0 ≡ 255 ⌝ }
+    ensures { λ r. ⌜ r < n ⌝ }
+    ensures { λ r. ⌜ keptOf (now (p .entry)) r ≡ keptOf (now (p .entry)) n ⌝ }
+{
+    if 64 <= n {
+        if ff64(p, n - 64) {
+            return n - 64;
+        }
+    }
+    if 8 <= n {
+        if ff8(p, n - 8) {
+            return n - 8;
+        }
+    }
+    n - 1
+}
+
 // How many of the first n bytes are left once trailing FF bytes are dropped.
+// By recursion on n, which falls with each FF dropped: by many a call, since the compiler makes no loop of the calls.
 fn kept(p: &[u8], n: usize) -> usize
     requires { ⌜ n ≤ length (now p) ⌝ }
     ensures { λ r. ⌜ r ≡ keptOf (now (p .entry)) n ⌝ }
@@ -25,9 +84,21 @@ fn kept(p: &[u8], n: usize) -> usize
     }
     let m = n - 1;
     if p[m] == 255 {
-        return kept(p, m);
+        return kept(p, fewer(p, n));
     }
     n
+}
+
+// How many bytes of a prefix are kept for an unbounded end; none for an end with a key, which is not made of them.
+// Counted once, for the end's kind, its size and its bytes.
+fn kept_for(p: &[u8], k: Kind) -> usize
+    ensures { λ r. ⌜ r ≡ keptFor k (now (p .entry)) ⌝ }
+{
+    match k {
+        Kind::Unbounded => kept(p, p.len()),
+        Kind::Included => 0,
+        Kind::Excluded => 0,
+    }
 }
 
 // The kind of a start that follows a prefix.
@@ -47,12 +118,13 @@ fn start_kind(p: &[u8], k: Kind, s: &[u8]) -> Kind
 }
 
 // The kind of an end that follows a prefix.
-fn end_kind(p: &[u8], k: Kind, e: &[u8]) -> Kind
+fn end_kind(p: &[u8], k: Kind, e: &[u8], n: usize) -> Kind
+    requires { ⌜ n ≡ keptFor k (now p) ⌝ }
     ensures { λ r. ⌜ r ≡ kindOfBound (joinEnd (now (p .entry)) (boundOf k (now (e .entry)))) ⌝ }
 {
     match k {
         Kind::Unbounded => {
-            if kept(p, p.len()) == 0 {
+            if n == 0 {
                 return Kind::Unbounded;
             }
             Kind::Excluded
@@ -81,14 +153,13 @@ fn start_size(p: &[u8], k: Kind, s: &[u8]) -> usize
 }
 
 // How many bytes an end takes that follows a prefix.
-fn end_size(p: &[u8], k: Kind, e: &[u8]) -> usize
-    requires { ⌜ length (now p) ≤ 1024 ⌝ ∗ ⌜ joinsWithin (now p) (boundOf k (now e)) ≡ true ⌝ }
+fn end_size(p: &[u8], k: Kind, e: &[u8], n: usize) -> usize
+    requires { ⌜ n ≡ keptFor k (now p) ⌝ ∗ ⌜ length (now p) ≤ 1024 ⌝ ∗ ⌜ joinsWithin (now p) (boundOf k (now e)) ≡ true ⌝ }
     ensures { λ r. ⌜ r ≡ length (writeBound (joinEnd (now (p .entry)) (boundOf k (now (e .entry))))) ⌝ }
     ensures { λ r. ⌜ r ≤ 1026 ⌝ }
 {
     match k {
         Kind::Unbounded => {
-            let n = kept(p, p.len());
             if n == 0 {
                 return 0;
             }
@@ -136,14 +207,13 @@ fn put_next(out: &mut [u8], at: usize, p: &[u8], n: usize) -> usize
 }
 
 // Writes an end that follows a prefix; answers the place past it.
-fn put_end(out: &mut [u8], at: usize, p: &[u8], k: Kind, e: &[u8]) -> usize
-    requires { ⌜ length (now p) ≤ 1024 ⌝ ∗ ⌜ joinsWithin (now p) (boundOf k (now e)) ≡ true ⌝ ∗ ⌜ at + length (writeBound (joinEnd (now p) (boundOf k (now e)))) ≤ length (now out) ⌝ }
+fn put_end(out: &mut [u8], at: usize, p: &[u8], k: Kind, e: &[u8], n: usize) -> usize
+    requires { ⌜ n ≡ keptFor k (now p) ⌝ ∗ ⌜ length (now p) ≤ 1024 ⌝ ∗ ⌜ joinsWithin (now p) (boundOf k (now e)) ≡ true ⌝ ∗ ⌜ at + length (writeBound (joinEnd (now p) (boundOf k (now e)))) ≤ length (now out) ⌝ }
     ensures { λ r. ⌜ r ≡ at + length (writeBound (joinEnd (now (p .entry)) (boundOf k (now (e .entry))))) ⌝ }
     ensures { λ r. ⌜ now (out .exit) ≡ splice (now (out .entry)) at (writeBound (joinEnd (now (p .entry)) (boundOf k (now (e .entry))))) ⌝ }
 {
     match k {
         Kind::Unbounded => {
-            let n = kept(p, p.len());
             if n == 0 {
                 return at;
             }
@@ -155,14 +225,14 @@ fn put_end(out: &mut [u8], at: usize, p: &[u8], k: Kind, e: &[u8]) -> usize
 }
 
 // Writes the range of a prefix and a subrange to the front of a buffer.
-fn write_range(out: &mut [u8], p: &[u8], ks: Kind, s: &[u8], ke: Kind, e: &[u8])
-    requires { ⌜ length (now p) ≤ 1024 ⌝ ∗ ⌜ joinsWithin (now p) (boundOf ks (now s)) ≡ true ⌝ ∗ ⌜ joinsWithin (now p) (boundOf ke (now e)) ≡ true ⌝ ∗ ⌜ length (writeRange (fromPrefixAndSubrange (now p) (rangeOf ks (now s) ke (now e)))) ≤ length (now out) ⌝ }
+fn write_range(out: &mut [u8], p: &[u8], ks: Kind, s: &[u8], ke: Kind, e: &[u8], n: usize)
+    requires { ⌜ n ≡ keptFor ke (now p) ⌝ ∗ ⌜ length (now p) ≤ 1024 ⌝ ∗ ⌜ joinsWithin (now p) (boundOf ks (now s)) ≡ true ⌝ ∗ ⌜ joinsWithin (now p) (boundOf ke (now e)) ≡ true ⌝ ∗ ⌜ length (writeRange (fromPrefixAndSubrange (now p) (rangeOf ks (now s) ke (now e)))) ≤ length (now out) ⌝ }
     ensures { λ _. ⌜ now (out .exit) ≡ splice (now (out .entry)) 0 (writeRange (fromPrefixAndSubrange (now (p .entry)) (rangeOf ks (now (s .entry)) ke (now (e .entry))))) ⌝ }
 {
-    let head = format::head_byte(start_kind(p, ks, s), end_kind(p, ke, e));
+    let head = format::head_byte(start_kind(p, ks, s), end_kind(p, ke, e, n));
     format::put_byte(out, 0, head);
     let at = put_start(out, 1, p, ks, s);
-    put_end(out, at, p, ke, e);
+    put_end(out, at, p, ke, e, n);
 }
 
 // The range of a prefix and a subrange, written to the front of a buffer that is long enough.
@@ -178,11 +248,12 @@ pub fn from_prefix_and_subrange(
     ensures { λ r. ⌜ r ≡ reported (writtenTo (length (now (out .entry))) (writeRange (fromPrefixAndSubrange (now (p .entry)) (rangeOf ks (now (s .entry)) ke (now (e .entry)))))) ⌝ }
     ensures { λ r. ⌜ now (out .exit) ≡ lent (now (out .entry)) (writtenTo (length (now (out .entry))) (writeRange (fromPrefixAndSubrange (now (p .entry)) (rangeOf ks (now (s .entry)) ke (now (e .entry)))))) ⌝ }
 {
-    let size = 1 + start_size(p, ks, s) + end_size(p, ke, e);
+    let n = kept_for(p, ke);
+    let size = 1 + start_size(p, ks, s) + end_size(p, ke, e, n);
     if out.len() < size {
         return Written::Stop(16);
     }
-    write_range(out, p, ks, s, ke, e);
+    write_range(out, p, ks, s, ke, e, n);
     Written::Wrote(size)
 }
 

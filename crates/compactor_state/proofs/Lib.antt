@@ -1,6 +1,5 @@
 pub mod SourceExits
 pub mod Steps
-pub mod PartThere
 pub mod OneExits
 pub mod PartExits
 pub mod JobExits

@@ -31,11 +31,11 @@ use Rattle.manifest.specs.Checks.{all}
 use Rattle.manifest.specs.Spans.{lastKind, lastSpan}
 use Rattle.manifest.proofs.Steps.{all-more}
 use Rattle.incremental_progress.specs.Checks.{plannedFrom, lastCut, outputsFrom, outputsInside}
+use Rattle.progress.proofs.PartThere.{partWith, part-stops, outputs-place, outputs-there, part-past, part-here}
 use Rattle.compactor_state.specs.Faults.{plannedAfter, outputBetween, partsFault}
 use Rattle.compactor_state.specs.Spans.{cutOf, OutputsFound}
 use Rattle.compactor_state.specs.declared.parts.Outputs.{Outputs}
 use Rattle.compactor_state.proofs.Steps.{cutPast, past-more, outputCut, outputs-more, partCut, planned-one, planned-append}
-use Rattle.compactor_state.proofs.PartThere.{partWith, part-stops, outputs-place, outputs-there, part-past, part-here}
 
 -- ---- outputs_between
 pub record OutputsSeen (s : List ℕ) (from n : ℕ) (i j : BoundSpan) (k at : ℕ) (inside : Bool) (before : BoundSpan) : Type 0 where

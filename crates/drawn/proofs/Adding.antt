@@ -14,21 +14,20 @@ use Rattle.records.specs.Layouts.{table, view}
 use Rattle.incremental_progress.specs.Draws.{Ten, Entry, whole, cut, Drawn, used-up, got, supply, next, draw, drawnView, fillAll}
 use Rattle.incremental_progress.proofs.FilledViews.{fill-append}
 use Rattle.drawn.specs.Bytes.{cutBytes, tableBytes}
-use Rattle.drawn.specs.Supply.{viewBytes, sizes, SizedFound}
-use Rattle.drawn.specs.declared.Sized.{Sized}
+use Rattle.drawn.specs.Supply.{viewBytes, SizedFound}
 use Rattle.drawn.specs.declared.Sized.the-variants.{At, UsedUp}
 use Rattle.drawn.proofs.WriteExits.{cut-view-bytes}
 
 -- ---- filling
--- views in front of those that are still to be filled
-abbrev pub joinTo : List View → Drawn (List View) → Drawn (List View)
+-- views, or runs, in front of those that are still to be filled
+abbrev pub joinTo : {A : Type 0} → List A → Drawn (List A) → Drawn (List A)
 joinTo seen d = next d (λ vs s. got (seen ++ vs) s)
 
-join-none : (d : Drawn (List View)) → d ≡ joinTo [] d
+pub join-none : {A : Type 0} (d : Drawn (List A)) → d ≡ joinTo [] d
 join-none used-up = refl
 join-none (got vs s) = refl
 
-join-join : (seen more : List View) (d : Drawn (List View)) → joinTo seen (joinTo more d) ≡ joinTo (seen ++ more) d
+pub join-join : {A : Type 0} (seen more : List A) (d : Drawn (List A)) → joinTo seen (joinTo more d) ≡ joinTo (seen ++ more) d
 join-join seen more used-up = refl
 join-join seen more (got vs s) = ap (λ l. got l s) (sym (append-assoc seen more vs))
 
@@ -44,7 +43,7 @@ pub fill-none : (v : View) (r : Range) (s : List Ten) → draw (v .id) s ≡ use
 unfolding fillAll
 fill-none v r s e = rw e
 
-join-filled : (seen : List View) (fs es : List Entry) (s : List Ten) (ws : List View) (t : List Ten) → fillAll fs s ≡ got ws t → joinTo seen (fillAll (fs ++ es) s) ≡ joinTo (seen ++ ws) (fillAll es t)
+pub join-filled : (seen : List View) (fs es : List Entry) (s : List Ten) (ws : List View) (t : List Ten) → fillAll fs s ≡ got ws t → joinTo seen (fillAll (fs ++ es) s) ≡ joinTo (seen ++ ws) (fillAll es t)
 join-filled seen fs es s ws t e = rw (fill-append fs es s, e) (join-join seen ws (fillAll es t))
 
 join-used : (seen : List View) (fs es : List Entry) (s : List Ten) → fillAll fs s ≡ used-up → joinTo seen (fillAll (fs ++ es) s) ≡ used-up
@@ -67,21 +66,21 @@ cut-length v r ten h k =
     ap length (cut-view-bytes v r ten) ∙ rw (length-append, length-append, length-append, length-append, t, k) (omega arith)
 
 -- ---- what an answer says
-record Filled (ids : List ℕ) (d : Drawn (List View)) (views bytes nx : ℕ) : Type 0 where
-  all : List View
-  is : d ≡ got all (supply (drop nx ids))
-  count : views ≡ length all
-  size : bytes ≡ length (viewBytes all)
+pub record Filled (ids : List ℕ) (d : Drawn (List View)) (views bytes nx : ℕ) : Type 0 where
+  pub all-views : List View
+  pub is : d ≡ got all-views (supply (drop nx ids))
+  pub count : views ≡ length all-views
+  pub size : bytes ≡ length (viewBytes all-views)
 
-filled : (ids : List ℕ) (d : Drawn (List View)) (views bytes nx : ℕ) → SizedFound ids d (At views bytes nx) → Filled ids d views bytes nx
-filled ids used-up views bytes nx f = absurd (let e = f .meaning in let z : _≡_ {A = ℕ} 0 1 = cc in omega arith)
-filled ids (got vs s) views bytes nx f =
+pub filled : (ids : List ℕ) (d : Drawn (List View)) {views bytes nx : ℕ} → SizedFound ids d (At views bytes nx) → Filled ids d views bytes nx
+filled ids used-up {views} {bytes} {nx} f = absurd (let e = f .meaning in let z : _≡_ {A = ℕ} 0 1 = cc in omega arith)
+filled ids (got vs s) {views} {bytes} {nx} f =
     let e = f .meaning in
     let a : _≡_ {A = ℕ × ℕ} (views, bytes) (length vs, length (viewBytes vs)) = cc in
     let t : supply (drop nx ids) ≡ s = cc in
-    record { all = vs; is = ap (λ x. got vs x) (sym t); count = ap (λ (p : ℕ × ℕ). p .0) a; size = ap (λ (p : ℕ × ℕ). p .1) a }
+    record { all-views = vs; is = ap (λ x. got vs x) (sym t); count = ap (λ (p : ℕ × ℕ). p .0) a; size = ap (λ (p : ℕ × ℕ). p .1) a }
 
-none-filled : (ids : List ℕ) (d : Drawn (List View)) → SizedFound ids d UsedUp → d ≡ used-up
+pub none-filled : (ids : List ℕ) (d : Drawn (List View)) → SizedFound ids d UsedUp → d ≡ used-up
 none-filled ids used-up f = refl
 none-filled ids (got vs s) f = absurd (let e = f .meaning in let z : _≡_ {A = ℕ} 0 1 = cc in omega arith)
 
@@ -101,11 +100,11 @@ adding-begin ids es from h = record { within = h; seen = []; is = join-none _; c
 module _ {ids : List ℕ} {d : Drawn (List View)} where
   pub adding-more : (fs es : List Entry) {views bytes nx more long then : ℕ} → Adding ids d (fs ++ es) views bytes nx → SizedFound ids (fillAll fs (supply (drop nx ids))) (At more long then) → Adding ids d es (views + more) (bytes + long) then
   adding-more fs es {nx} {more} {long} {then} p f =
-      let g = filled ids (fillAll fs (supply (drop nx ids))) more long then f in
+      let g = filled ids (fillAll fs (supply (drop nx ids))) f in
       record {
         within = f .inside;
-        seen = p .seen ++ g .all;
-        is = p .is ∙ join-filled (p .seen) fs es (supply (drop nx ids)) (g .all) (supply (drop then ids)) (g .is);
+        seen = p .seen ++ g .all-views;
+        is = p .is ∙ join-filled (p .seen) fs es (supply (drop nx ids)) (g .all-views) (supply (drop then ids)) (g .is);
         count = rw length-append (omega (arith, p .count, g .count));
         size = rw (bytes-append, length-append) (omega (arith, p .size, g .size));
       }

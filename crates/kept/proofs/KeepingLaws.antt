@@ -11,23 +11,12 @@ use Rattle.records.specs.Values.{View}
 use Rattle.incremental_progress.specs.Draws.{Ten, Entry, Drawn, used-up, got, supply, next, fillAll}
 use Rattle.incremental_progress.proofs.FilledViews.{fill-append}
 use Rattle.drawn.specs.Supply.{isDrawn, viewsOf}
-use Rattle.drawn.proofs.Adding.{joinTo}
+use Rattle.drawn.proofs.Adding.{joinTo, join-none, join-filled}
 use Rattle.pieces.specs.Entries.{keptViews, keptGaps, KeptTable}
 use Rattle.kept.specs.Kept.{Roomy, MoreKept}
 use Rattle.kept.specs.declared.piece.OneKept.{OneKept}
 
 -- ---- filling
-join-none : (d : Drawn (List View)) → d ≡ joinTo [] d
-join-none used-up = refl
-join-none (got vs s) = refl
-
-join-join : (seen more : List View) (d : Drawn (List View)) → joinTo seen (joinTo more d) ≡ joinTo (seen ++ more) d
-join-join seen more used-up = refl
-join-join seen more (got vs s) = ap (λ l. got l s) (sym (append-assoc seen more vs))
-
-join-filled : (seen : List View) (fs es : List Entry) (s : List Ten) (ws : List View) (t : List Ten) → fillAll fs s ≡ got ws t → joinTo seen (fillAll (fs ++ es) s) ≡ joinTo (seen ++ ws) (fillAll es t)
-join-filled seen fs es s ws t e = rw (fill-append fs es s, e) (join-join seen ws (fillAll es t))
-
 -- where all are drawn, the first of them are
 first-drawn : (seen : List View) (d : Drawn (List View)) (f : List View → List Ten → Drawn (List View)) → T (isDrawn (joinTo seen (next d f))) → T (isDrawn d)
 first-drawn seen used-up f h = h

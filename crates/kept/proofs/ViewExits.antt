@@ -4,7 +4,7 @@ use Prim.Native.Nat.{ℕ, zero, suc, _+_, _≤_, _<_}
 use native.Mathlib.Omega.{arith}
 use native.Mathlib.Numerals.{add-one}
 use mathlib.Core.Path.{_≡_, refl, sym, ap, _∙_}
-use mathlib.Core.List.{List, [], _∷_, _++_, flatMap, append-assoc, tail-eq-of-cons-eq}
+use mathlib.Core.List.{List, [], _∷_, _++_, flatMap, append-assoc}
 use lib.ListN.{length, drop, drop-of-length-le, length-append}
 use lib.Dec.{T}
 use mir.Val.{Fits}
@@ -27,17 +27,12 @@ use Rattle.pieces.specs.Pieces.{entriesIn}
 use Rattle.pieces.specs.Held.{Inputs, HeldAt}
 use Rattle.pieces.specs.Entries.{gapOf, keptViews, keptGaps, none-left}
 use Rattle.pieces.specs.declared.held.ViewHeld.{ViewHeld}
-use Rattle.pieces.proofs.SizeExits.{next-gap}
+use Rattle.pieces.proofs.SizeExits.{next-gap, gaps-long, same-rest}
 use Rattle.kept.specs.Kept.{gapHere, HeldReady, PieceReady, ViewReady, MoreKept, KeptFound}
 use Rattle.kept.specs.declared.piece.OneKept.{OneKept}
 use Rattle.kept.proofs.KeepingLaws.{Keeping, keeping-begin, keeping-ready, keeping-more, keeping-all}
 
 -- ---- gap g of a list of gaps, and those after it
-gaps-long : (s : List ℕ) (n : ℕ) (t : List ℕ) → length (gapsIn s n t) ≡ n
-unfolding gapsIn
-gaps-long s zero t = refl
-gaps-long s (suc n) t = rw (gaps-long s n (drop 6 t))
-
 here-suc : (g : ℕ) (gs : List Range) → g < length gs → drop g gs ≡ gapOf g gs ∷ drop (suc g) gs
 here-suc g [] h = absurd (omega arith)
 here-suc zero (x ∷ gs) h = refl
@@ -138,11 +133,6 @@ run-begin image first n job gap-table m ids from t i h o g f d c l =
       both = refl;
       keeping = keeping-begin image (gapsIn job m gap-table) m ids _ _ from 0 t f (record { long = omega arith; inside = none-left }) (record { drawn = d; room = omega arith });
     }
-
--- what is left begins with the view that comes next
-same-rest : {A : Type 0} (seen l : List A) (a : A) (tail : List A) → seen ++ l ≡ seen ++ (a ∷ tail) → l ≡ a ∷ tail
-same-rest [] l a tail e = e
-same-rest (x ∷ seen) l a tail e = same-rest seen l a tail (tail-eq-of-cons-eq e)
 
 none-more : {A : Type 0} (seen l : List A) → seen ≡ seen ++ l → l ≡ []
 none-more seen [] e = refl

@@ -10,7 +10,7 @@ use lib.ListN.{length, getD, take, drop}
 use lib.Seq.{drop-cons}
 use Rattle.base.specs.Bytes.{Bytes, bytes-tail}
 use Rattle.key.specs.Order.{cmpKey, cmpNumber, orElse}
-use Rattle.key.specs.Word.{digits}
+use Rattle.key.specs.Word.{digits, reversed}
 use Rattle.key.specs.declared.Order.{Order}
 use Rattle.key.specs.declared.Order.the-variants.{Less, Equal, Greater}
 use Rattle.key.proofs.Linear.{cmp-self, number-linear, number-less, number-greater, orElse-end}
@@ -83,8 +83,65 @@ one-digit :
 unfolding digits
 one-digit n v a i j e h = rw (e, add-one, drop-cons a i 0)
 
--- the sum that `word` makes
-pub eight :
+four-digits :
+    (v : ℕ) (a : List ℕ) (i : ℕ)
+    → i + 4 ≤ length a
+    → digits v (take 4 (drop i a))
+    ≡ (((v * 256 + getD a i 0) * 256 + getD a (i + 1) 0) * 256 + getD a (i + 2) 0) * 256 + getD a (i + 3) 0
+unfolding digits
+four-digits v a i h =
+    rw (
+      one-digit 3 v a i (i + 1) refl (omega arith),
+      one-digit 2 _ a (i + 1) (i + 2) (omega arith) (omega arith),
+      one-digit 1 _ a (i + 2) (i + 3) (omega arith) (omega arith),
+      one-digit 0 _ a (i + 3) (i + 4) (omega arith) (omega arith),
+    )
+
+-- the sum that `half` makes
+pub four :
+    (a : List ℕ) (i : ℕ) {x₀ x₁ x₂ x₃ : ℕ}
+    → i + 4 ≤ length a
+    → x₀ ≡ getD a i 0
+    → x₁ ≡ getD a (i + 1) 0
+    → x₂ ≡ getD a (i + 2) 0
+    → x₃ ≡ getD a (i + 3) 0
+    → x₀ * 16777216 + x₁ * 65536 + x₂ * 256 + x₃ ≡ digits 0 (take 4 (drop i a))
+four a i h e₀ e₁ e₂ e₃ = omega (arith, four-digits 0 a i h)
+
+-- and the one that `word` makes of two
+pub two-halves :
+    (a : List ℕ) (i : ℕ) {x y : ℕ}
+    → i + 8 ≤ length a
+    → x ≡ digits 0 (take 4 (drop i a))
+    → y ≡ digits 0 (take 4 (drop (i + 4) a))
+    → x * 4294967296 + y ≡ digits 0 (take 8 (drop i a))
+two-halves a i {x} {y} h e f =
+    let n : digits 0 (take 8 (drop i a)) ≡ digits (digits 0 (take 4 (drop i a))) (take 4 (drop (i + 4) a)) = first-four in
+    let p = four-digits (digits 0 (take 4 (drop i a))) a (i + 4) (omega arith) in
+    let q = four-digits 0 a (i + 4) (omega arith) in
+    omega (arith, n, p, q)
+  where
+    first-four : digits 0 (take 8 (drop i a)) ≡ digits (digits 0 (take 4 (drop i a))) (take 4 (drop (i + 4) a))
+    first-four =
+        rw (
+          one-digit 7 0 a i (i + 1) refl (omega arith),
+          one-digit 6 _ a (i + 1) (i + 2) (omega arith) (omega arith),
+          one-digit 5 _ a (i + 2) (i + 3) (omega arith) (omega arith),
+          one-digit 4 _ a (i + 3) (i + 4) (omega arith) (omega arith),
+          four-digits 0 a i (omega arith),
+        )
+
+-- ---- the least significant byte first
+one-reversed :
+    (n : ℕ) (a : List ℕ) (i j : ℕ)
+    → j ≡ i + 1
+    → i < length a
+    → reversed (take (suc n) (drop i a)) ≡ reversed (take n (drop j a)) * 256 + getD a i 0
+unfolding reversed
+one-reversed n a i j e h = rw (e, add-one, drop-cons a i 0)
+
+-- the sum that `reversed` makes
+pub eight-reversed :
     (a : List ℕ) (i : ℕ) {x₀ x₁ x₂ x₃ x₄ x₅ x₆ x₇ : ℕ}
     → i + 8 ≤ length a
     → x₀ ≡ getD a i 0
@@ -95,21 +152,34 @@ pub eight :
     → x₅ ≡ getD a (i + 5) 0
     → x₆ ≡ getD a (i + 6) 0
     → x₇ ≡ getD a (i + 7) 0
-    → ((((((x₀ * 256 + x₁) * 256 + x₂) * 256 + x₃) * 256 + x₄) * 256 + x₅) * 256 + x₆) * 256 + x₇ ≡ digits 0 (take 8 (drop i a))
-unfolding digits
-eight a i h e₀ e₁ e₂ e₃ e₄ e₅ e₆ e₇ =
+    → ((((((x₇ * 256 + x₆) * 256 + x₅) * 256 + x₄) * 256 + x₃) * 256 + x₂) * 256 + x₁) * 256 + x₀ ≡ reversed (take 8 (drop i a))
+unfolding reversed
+eight-reversed a i h e₀ e₁ e₂ e₃ e₄ e₅ e₆ e₇ =
     rw (
-      one-digit 7 0 a i (i + 1) refl (omega arith),
-      one-digit 6 _ a (i + 1) (i + 2) (omega arith) (omega arith),
-      one-digit 5 _ a (i + 2) (i + 3) (omega arith) (omega arith),
-      one-digit 4 _ a (i + 3) (i + 4) (omega arith) (omega arith),
-      one-digit 3 _ a (i + 4) (i + 5) (omega arith) (omega arith),
-      one-digit 2 _ a (i + 5) (i + 6) (omega arith) (omega arith),
-      one-digit 1 _ a (i + 6) (i + 7) (omega arith) (omega arith),
-      one-digit 0 _ a (i + 7) (i + 8) (omega arith) (omega arith),
+      one-reversed 7 a i (i + 1) refl (omega arith),
+      one-reversed 6 a (i + 1) (i + 2) (omega arith) (omega arith),
+      one-reversed 5 a (i + 2) (i + 3) (omega arith) (omega arith),
+      one-reversed 4 a (i + 3) (i + 4) (omega arith) (omega arith),
+      one-reversed 3 a (i + 4) (i + 5) (omega arith) (omega arith),
+      one-reversed 2 a (i + 5) (i + 6) (omega arith) (omega arith),
+      one-reversed 1 a (i + 6) (i + 7) (omega arith) (omega arith),
+      one-reversed 0 a (i + 7) (i + 8) (omega arith) (omega arith),
     )
     (omega arith)
 
+-- equal numbers have equal digits
+pub reversed-equal : (k l : List ℕ) → Bytes k → Bytes l → length k ≡ length l → reversed k ≡ reversed l → k ≡ l
+unfolding reversed
+reversed-equal [] [] b c e q = refl
+reversed-equal [] (y ∷ l) b c e q = absurd (omega arith)
+reversed-equal (x ∷ k) [] b c e q = absurd (omega arith)
+reversed-equal (x ∷ k) (y ∷ l) b c e q =
+    let h : x < 256 = b .below 0 in
+    let i : y < 256 = c .below 0 in
+    let r : reversed k ≡ reversed l = omega arith in
+    let s : x ≡ y = omega arith in
+    rw (s, reversed-equal k l (bytes-tail b) (bytes-tail c) (omega arith) r)
+
 pub ruleset number-exits = (less, greater, equal)
 
-pub ruleset word-exits = (eight)
+pub ruleset word-exits = (four, two-halves, eight-reversed)

@@ -43,16 +43,16 @@ whole-read read s a e =
     record { small = leb-true (length s) 65536 (h .0); all = ended-answer (read s) a (h .1) }
 
 -- ---- what an answer with a number says
-record Numbered {A : Type 0} (checks : A → Checks) (o : Outcome A) (fault : ℕ) : Type 0 where
-  value : A
-  is : o ≡ answer value
-  fault-is : fault ≡ faultOf (checks value)
+pub record Numbered {A : Type 0} (checks : A → Checks) (o : Outcome A) (fault : ℕ) : Type 0 where
+  pub value : A
+  pub is : o ≡ answer value
+  pub fault-is : fault ≡ faultOf (checks value)
 
-numbered : {A : Type 0} (checks : A → Checks) (o : Outcome A) (fault : ℕ) → answer fault ≡ outcomeFault checks o → Numbered checks o fault
+pub numbered : {A : Type 0} (checks : A → Checks) (o : Outcome A) (fault : ℕ) → answer fault ≡ outcomeFault checks o → Numbered checks o fault
 numbered checks (answer a) fault e = record { value = a; is = refl; fault-is = cc }
 numbered checks (outcome.stop k) fault e = absurd (let z : _≡_ {A = ℕ} 0 1 = cc in omega arith)
 
-stopped-is : {A : Type 0} (checks : A → Checks) (o : Outcome A) (k : ℕ) → outcome.stop k ≡ outcomeFault checks o → o ≡ outcome.stop k
+pub stopped-is : {A : Type 0} (checks : A → Checks) (o : Outcome A) (k : ℕ) → outcome.stop k ≡ outcomeFault checks o → o ≡ outcome.stop k
 stopped-is checks (answer a) k e = absurd (let z : _≡_ {A = ℕ} 0 1 = cc in omega arith)
 stopped-is checks (outcome.stop j) k e = let z : j ≡ k = cc in ap outcome.stop z
 

@@ -1,16 +1,16 @@
 -- The exits of `still_fits`, `rest_sized` and `image_sized`: the outputs draw first, and then the runs.
 -- Assumes nothing.
-use Prim.Native.Nat.{ℕ, _+_, _*_, _≤_, _<_}
+use Prim.Native.Nat.{ℕ, _≤_}
 use native.Mathlib.Omega.{arith}
 use mathlib.Core.Path.{_≡_, refl, sym, ap, _∙_}
 use mathlib.Core.Bool.{Bool, true, false, _&&_}
 use mathlib.Core.List.{List, flatMap, flatten}
 use lib.ListN.{length, drop}
-use lib.Dec.{T, leb}
+use lib.Dec.{T}
 use Rattle.format.specs.Got.{Got, got, stop, andThen}
 use Rattle.records.specs.Form.{readMany}
 use Rattle.records.specs.Found.{isGot, valuesOf}
-use Rattle.records.specs.Values.{View, Run, Image, Part, Job}
+use Rattle.records.specs.Values.{View, Image, Part, Job}
 use Rattle.records.specs.Layouts.{run, image, part, job, upTo}
 use Rattle.records.specs.Spans.{idsIn, jobHead, JobFound, CountFound}
 use Rattle.records.specs.declared.parts.JobRead.{JobRead}
@@ -28,15 +28,14 @@ use Rattle.incremental_progress.proofs.FilledViews.{fill-parts, parts-length}
 use Rattle.drawn.specs.Supply.{viewBytes, SizedFound}
 use Rattle.drawn.specs.declared.Sized.{Sized}
 use Rattle.drawn.specs.declared.Sized.the-variants.{At as SizedAt, UsedUp as SizedUsedUp}
+use Rattle.drawn.proofs.Adding.{Filled, filled, none-filled}
 use Rattle.progress.specs.Spans.{jobIn}
 use Rattle.progress.specs.Tables.{gapsIn}
 use Rattle.pieces.specs.Held.{Inputs}
 use Rattle.published.specs.Most.{Most}
 use Rattle.measured.specs.Measured.{ImageSizedFound, outsOf, outsAt, JobReady}
 use Rattle.measured.specs.declared.ImageSized.{ImageSized}
-use Rattle.measured.specs.declared.ImageSized.the-variants.{At, UsedUp}
-use Rattle.measured.specs.declared.JobSized.{JobSized}
-use Rattle.measured.proofs.Lengths.{Filled, filled, none-filled}
+use Rattle.measured.specs.declared.ImageSized.the-variants.{UsedUp}
 
 -- ---- still_fits
 pub all-fit : {a b : Bool} (c : Bool) → a ≡ true → c ≡ b → c ≡ (a && b)
@@ -116,12 +115,15 @@ module _ (task ids : List ℕ) {w : Sized} (x : SizedFound ids (fillAll (flatMap
     outs : Outs (fillParts ps (supply ids)) (these .all-views) (supply (drop nx ids))
     outs = outs-are (fillParts ps (supply ids)) (these .all-views) (supply (drop nx ids)) (sym (fill-parts ps (supply ids)) ∙ these .is)
 
+    pub outs-filled : fillParts (jobIn (job .read task) .parts) (supply ids) ≡ draws.got (outsAt task ids) (supply (drop nx ids))
+    outs-filled = outs .is
+
     pub image-ids : nx ≤ length ids
     image-ids = (rw e at x) .inside
 
     pub image-at : (i : Image) {r : ImageSized} → ImageSizedFound (gapRuns (jobIn (job .read task)) (outsAt task ids) i (supply (drop nx ids))) r → ImageSizedFound (gapCommit (jobIn (job .read task)) i (supply ids)) r
     unfolding gapCommit
-    image-at i f = rw (outs .is) f
+    image-at i f = rw outs-filled f
 
     pub image-ready :
         (given gap-table : List ℕ) (m : ℕ) {r : JobRead} {d c from n first : ℕ}
@@ -146,7 +148,7 @@ module _ (task ids : List ℕ) {w : Sized} (x : SizedFound ids (fillAll (flatMap
           size = these .size ∙ ap (λ vs. length (viewBytes vs)) (outs .flat);
           few = most .few;
           short = most .short;
-          one-an-interval = parts-length ps (supply ids) (outsAt task ids) (supply (drop nx ids)) (outs .is);
+          one-an-interval = parts-length ps (supply ids) (outsAt task ids) (supply (drop nx ids)) outs-filled;
         }
 
 pub ruleset image-exits = (image-never, image-used, image-ids, image-at, image-ready)

@@ -2,9 +2,9 @@
 -- Assumes nothing.
 use Prim.Native.Nat.{ℕ, _+_, _-_, _*_, _≤_}
 use native.Mathlib.Omega.{arith}
-use mathlib.Core.Path.{_≡_, refl, sym, ap, _∙_}
+use mathlib.Core.Path.{_≡_, sym, ap, _∙_}
 use mathlib.Core.Bool.{Bool, true, false}
-use mathlib.Core.List.{List, flatMap, flatten}
+use mathlib.Core.List.{List, flatMap}
 use lib.ListN.{length, drop}
 use lib.Dec.{eqb}
 use mir.Val.{Fits}
@@ -21,7 +21,7 @@ use Rattle.records.proofs.RecordLayouts.{view-layout}
 use Rattle.manifest.specs.Checks.{has}
 use Rattle.db_state.specs.Spans.{Past}
 use Rattle.incremental_progress.specs.Parts.{intervals}
-use Rattle.incremental_progress.specs.Draws.{Drawn, used-up, next, supply, fillAll}
+use Rattle.incremental_progress.specs.Draws.{Drawn, next, supply, fillAll}
 use Rattle.incremental_progress.specs.Draws as draws
 use Rattle.incremental_progress.specs.Gaps.{gaps, gapEntries, runGaps, placed, byGap, gapViews}
 use Rattle.incremental_progress.proofs.Lists.{All}
@@ -29,6 +29,7 @@ use Rattle.incremental_progress.proofs.FilledViews.{filled-length}
 use Rattle.incremental_progress.proofs.GapStarts.{gaps-length, run-gaps-bound}
 use Rattle.drawn.specs.Supply.{viewBytes, SizedFound}
 use Rattle.drawn.specs.declared.Sized.the-variants.{At as SizedAt}
+use Rattle.drawn.proofs.Adding.{filled, none-filled}
 use Rattle.progress.specs.Spans.{jobIn}
 use Rattle.progress.specs.Tables.{gapsIn}
 use Rattle.pieces.specs.Held.{Inputs}
@@ -39,7 +40,6 @@ use Rattle.pieces.proofs.HeldExits.{read-bytes-are}
 use Rattle.measured.specs.Measured.{outsAt, withOutputs, RunMost, JobReady}
 use Rattle.measured.specs.declared.JobSized.{JobSized}
 use Rattle.measured.proofs.Placing.{placed-count, placed-size}
-use Rattle.measured.proofs.Lengths.{filled, none-filled}
 
 -- ---- with_outputs
 module _ {r : RunSized} (k : RunSizedMost r) {v b a l nx p : ℕ} (h : v ≤ 65536) (m : b ≤ 13107200000) (q : r ≡ At a l nx p) where

@@ -5,17 +5,19 @@ use mathlib.Core.Bool.{Bool}
 use mathlib.Core.List.{List, [], flatten}
 use lib.Dec.{leb}
 use lib.ListN.{length, drop}
+use Rattle.format.specs.Got as format
 use Rattle.records.specs.Values.{View, Run, Image}
-use Rattle.records.specs.Layouts.{image, job}
+use Rattle.records.specs.Layouts.{run, image, job}
 use Rattle.records.specs.Spans.{idsIn}
 use Rattle.manifest.specs.Checks.{all}
 use Rattle.incremental_progress.specs.Parts.{intervals}
 use Rattle.incremental_progress.specs.Draws.{Drawn, used-up, got, supply}
-use Rattle.incremental_progress.specs.Gaps.{gaps, fillParts}
-use Rattle.drawn.specs.Supply.{viewBytes}
+use Rattle.incremental_progress.specs.Gaps.{gaps, fillParts, gapViews}
+use Rattle.drawn.specs.Supply.{viewBytes, SizedFound}
 use Rattle.progress.specs.Spans.{jobIn}
 use Rattle.progress.specs.Tables.{gapsIn}
 use Rattle.pieces.specs.Held.{Inputs}
+use Rattle.pieces.specs.Sizes.{sized}
 use Rattle.pieces.specs.declared.sizes.RunSized.{RunSized}
 use Rattle.pieces.specs.declared.sizes.RunSized.the-variants.{At as RunAt, UsedUp as RunUsedUp}
 use Rattle.measured.specs.declared.ImageSized.{ImageSized}
@@ -67,3 +69,16 @@ pub record JobReady (given task gap-table : List ℕ) (m : ℕ) (ids : List ℕ)
   pub few : h .views ≤ 65536
   pub short : h .bytes ≤ 13107200000
   pub one-an-interval : length (outsAt task ids) ≡ length (intervals (jobIn (job .read task) .parts))
+
+-- ---- the run that stands at a place
+abbrev pub PastRun : List ℕ → List ℕ → RunSized → Type 0
+PastRun given rest (RunAt views bytes next past) = (rest ≡ drop past given) × (past ≤ length given)
+PastRun given rest RunUsedUp = Unit
+
+-- the views that the commit gives it, and the place past it in the old image
+pub record RunAtFound (given task ids : List ℕ) (at from : ℕ) (r : RunSized) : Type 0 where
+  pub this : Run
+  pub rest : List ℕ
+  pub is : run .read (drop at given) ≡ format.got this rest
+  pub sizes-are : SizedFound ids (gapViews (jobIn (job .read task)) (outsAt task ids) (this .id) (this .views) (supply (drop from ids))) (sized r)
+  pub past-is : PastRun given rest r

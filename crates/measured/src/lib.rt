@@ -20,7 +20,7 @@ ghost use Rattle.progress.specs.Spans.{jobIn};
 ghost use Rattle.progress.specs.Tables.{gapsIn};
 ghost use Rattle.pieces.specs.Held.{Inputs};
 ghost use Rattle.pieces.specs.Sizes.{RunSizedFound, RunSizedMost};
-ghost use Rattle.measured.specs.Measured.{outsAt, withOutputs, RunMost, ImageSizedFound, JobReady};
+ghost use Rattle.measured.specs.Measured.{outsAt, withOutputs, RunMost, RunAtFound, ImageSizedFound, JobReady};
 
 // The bytes that the image takes, and whether each of its runs is within the ceiling.
 pub enum ImageSized {
@@ -101,6 +101,30 @@ fn run_sized<'a>(
     }
 }
 
+// The same of the run that stands at a place.
+fn run_sized_at<'a>(
+    given: &'a [u8],
+    at: usize,
+    task: &'a [u8],
+    table: &[usize],
+    m: usize,
+    ids: &[u8],
+    from: usize,
+    h: JobSized,
+) -> RunSized
+    requires { ⌜ JobReady (now given) (now task) (now table) m (now ids) h ⌝ }
+    requires { ⌜ at ≤ length (now given) ⌝ ∗ ⌜ T (isGot (run .read (drop at (now given)))) ⌝ ∗ ⌜ from ≤ length (now ids) ⌝ }
+    ensures { λ r. ⌜ RunAtFound (now (given .entry)) (now (task .entry)) (now (ids .entry)) at from r ⌝ }
+    ensures { λ r. ⌜ RunMost r ⌝ }
+{
+    match records::run_at(given, at) {
+        RunRead::Stop(_) => RunSized::UsedUp,
+        RunRead::At { id, views, next } => {
+            run_sized(given, next, views, id, task, table, m, ids, from, h)
+        }
+    }
+}
+
 // Whether all runs so far fit, and one of so many views.
 fn still_fits(fits: bool, views: usize) -> bool
     ensures { λ r. ⌜ r ≡ (fits && leb views 1024) ⌝ }
@@ -133,34 +157,20 @@ fn runs_sized<'a>(
     let mut bytes = 1;
     let mut fits = true;
     while seen < n {
-        match records::run_at(given, at) {
-            RunRead::Stop(_) => {
-                return ImageSized::UsedUp;
-            }
-            RunRead::At {
-                id,
-                views: count,
-                next: place,
-            } => {
-                match run_sized(given, place, count, id, task, table, m, ids, next, h) {
-                    RunSized::UsedUp => {
-                        return ImageSized::UsedUp;
-                    }
-                    RunSized::At {
-                        views,
-                        bytes: long,
-                        next: then,
-                        past,
-                    } => {
-                        bytes += 6 + long;
-                        fits = still_fits(fits, views);
-                        next = then;
-                        at = past;
-                        seen += 1;
-                    }
-                }
-            }
-        }
+        let RunSized::At {
+            views,
+            bytes: long,
+            next: then,
+            past,
+        } = run_sized_at(given, at, task, table, m, ids, next, h)
+        else {
+            return ImageSized::UsedUp;
+        };
+        bytes += 6 + long;
+        fits = still_fits(fits, views);
+        next = then;
+        at = past;
+        seen += 1;
     }
     ImageSized::At { bytes, fits }
 }

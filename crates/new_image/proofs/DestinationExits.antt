@@ -1,23 +1,20 @@
 -- The parts of a job one after another, and the exits of `put_intervals` and `put_destination`.
 -- Assumes nothing.
-use Prim.Native.Nat.{ℕ, zero, suc, _+_, _-_, _≤_, _<_, _^_}
+use Prim.Native.Nat.{ℕ, suc, _+_, _≤_, _<_}
 use native.Mathlib.Omega.{arith}
 use mathlib.Core.Path.{_≡_, refl, sym, ap, _∙_}
-use mathlib.Core.Bool.{Bool, true, false}
+use mathlib.Core.Bool.{false}
 use mathlib.Core.Option.{Option, none, some}
-use mathlib.Core.List.{List, [], _∷_, _++_, append-assoc, append-nil, tail-eq-of-cons-eq}
+use mathlib.Core.List.{List, [], _∷_, _++_, append-assoc}
 use lib.ListN.{length, drop, length-append}
 use lib.Dec.{T}
-use mir.Val.{Fits}
-use mir.Syntax.{w64}
 use Rattle.base.specs.Bytes.{Bytes}
 use Rattle.base.specs.Splice.{splice, splice-none, length-splice, splice-splice}
-use Rattle.format.specs.Got.{Got, got, stop}
+use Rattle.format.specs.Got.{Got, got, stop, andThen}
 use Rattle.records.specs.Form.{readMany, writeMany}
 use Rattle.records.specs.Found.{isGot, valuesOf}
 use Rattle.records.specs.Values.{View, Part}
 use Rattle.records.specs.Layouts.{part, job}
-use Rattle.format.specs.Got.{andThen}
 use Rattle.records.specs.Spans.{jobHead, JobFound, idsIn}
 use Rattle.records.specs.declared.parts.JobRead.{JobRead}
 use Rattle.records.specs.declared.parts.JobRead.the-variants.{At as JobAt, Stop as JobStop}
@@ -28,7 +25,7 @@ use Rattle.incremental_progress.specs.Intervals.{Interval}
 use Rattle.incremental_progress.specs.Parts.{durable}
 use Rattle.incremental_progress.specs.Draws.{Ten, Drawn, used-up, supply, next, partEntries, fillAll}
 use Rattle.incremental_progress.specs.Draws as draws
-use Rattle.incremental_progress.specs.Gaps.{Placed, inGap, placed, byGap, ofInterval, fillParts}
+use Rattle.incremental_progress.specs.Gaps.{Placed, inGap, byGap, ofInterval, fillParts}
 use Rattle.drawn.specs.Supply.{viewBytes, viewsOf, isDrawn}
 use Rattle.drawn.proofs.Adding.{bytes-append}
 use Rattle.progress.proofs.GapExits.{parts-most}
@@ -36,6 +33,7 @@ use Rattle.progress.specs.Spans.{jobIn}
 use Rattle.progress.specs.Tables.{gapsIn}
 use Rattle.pieces.specs.Held.{Inputs}
 use Rattle.pieces.specs.Entries.{keptViews, keptGaps, KeptTable}
+use Rattle.pieces.proofs.SizeExits.{same-rest}
 use Rattle.published.specs.Parts.{partIn}
 use Rattle.published.specs.Filled.{partViews}
 use Rattle.new_image.specs.Selected.{selected}
@@ -75,10 +73,6 @@ pub next-bytes : (ps : List (Placed View)) (i : Option Interval) (g : ℕ) (vs :
 unfolding byGap writeMany
 next-bytes ps none g vs outs = refl
 next-bytes ps (some iv) g vs outs = ap viewBytes (sym (append-assoc (inGap g ps) vs (byGap (suc g) outs ps))) ∙ bytes-append (inGap g ps ++ vs) (byGap (suc g) outs ps)
-
-same-rest : {A : Type 0} (seen l : List A) (a : A) (tail : List A) → seen ++ l ≡ seen ++ (a ∷ tail) → l ≡ a ∷ tail
-same-rest [] l a tail e = e
-same-rest (x ∷ seen) l a tail e = same-rest seen l a tail (tail-eq-of-cons-eq e)
 
 -- ---- put_intervals: the first k parts are done
 pub record Parting (image job gap-table : List ℕ) (m : ℕ) (ids t : List ℕ) (count from n : ℕ) (d : List ℕ) (first : ℕ) (out : List ℕ) (k at g nx to : ℕ) : Type 0 where

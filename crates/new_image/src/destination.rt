@@ -41,7 +41,7 @@ fn put_interval<'a>(
     table: &[usize],
     m: usize,
     ids: &[u8],
-    entries: &[usize],
+    rows: &[usize],
     count: usize,
     g: usize,
     at: usize,
@@ -49,10 +49,10 @@ fn put_interval<'a>(
     out: &mut [u8],
     to: usize,
 ) -> PutInterval
-    requires { ⌜ Inputs (now image) (now job) (now table) m ⌝ ∗ ⌜ KeptTable (now image) m (now ids) count (now entries) ⌝ ∗ ⌜ Bytes (now job) ⌝ ∗ ⌜ at ≤ length (now job) ⌝ ∗ ⌜ T (isGot (part .read (drop at (now job)))) ⌝ }
-    requires { ⌜ g ≤ 64 ⌝ ∗ ⌜ next ≤ length (now ids) ⌝ ∗ ⌜ T (isDrawn (partViews (now job) at (now ids) next)) ⌝ ∗ ⌜ to + length (intervalBytes (keptPlaced (now image) (gapsIn (now job) m (now table)) (now ids) count (now entries)) g (now job) at (now ids) next) ≤ length (now out) ⌝ }
-    ensures { λ r. ⌜ IntervalPut (keptPlaced (now (image .entry)) (gapsIn (now (job .entry)) m (now (table .entry))) (now (ids .entry)) count (now (entries .entry))) g (now (job .entry)) at (now (ids .entry)) next to r ⌝ }
-    ensures { λ r. ⌜ now (out .exit) ≡ splice (now (out .entry)) to (intervalBytes (keptPlaced (now (image .entry)) (gapsIn (now (job .entry)) m (now (table .entry))) (now (ids .entry)) count (now (entries .entry))) g (now (job .entry)) at (now (ids .entry)) next) ⌝ }
+    requires { ⌜ Inputs (now image) (now job) (now table) m ⌝ ∗ ⌜ KeptTable (now image) m (now ids) count (now rows) ⌝ ∗ ⌜ Bytes (now job) ⌝ ∗ ⌜ at ≤ length (now job) ⌝ ∗ ⌜ T (isGot (part .read (drop at (now job)))) ⌝ }
+    requires { ⌜ g ≤ 64 ⌝ ∗ ⌜ next ≤ length (now ids) ⌝ ∗ ⌜ T (isDrawn (partViews (now job) at (now ids) next)) ⌝ ∗ ⌜ to + length (intervalBytes (keptPlaced (now image) (gapsIn (now job) m (now table)) (now ids) count (now rows)) g (now job) at (now ids) next) ≤ length (now out) ⌝ }
+    ensures { λ r. ⌜ IntervalPut (keptPlaced (now (image .entry)) (gapsIn (now (job .entry)) m (now (table .entry))) (now (ids .entry)) count (now (rows .entry))) g (now (job .entry)) at (now (ids .entry)) next to r ⌝ }
+    ensures { λ r. ⌜ now (out .exit) ≡ splice (now (out .entry)) to (intervalBytes (keptPlaced (now (image .entry)) (gapsIn (now (job .entry)) m (now (table .entry))) (now (ids .entry)) count (now (rows .entry))) g (now (job .entry)) at (now (ids .entry)) next) ⌝ }
 {
     let h = part_held(job, at);
     let durable = h.durable;
@@ -64,7 +64,7 @@ fn put_interval<'a>(
             past: h.past,
         },
         Durable::At { start: _, end: _ } => {
-            let a = put_selected(image, job, table, m, ids, entries, count, false, g, out, to);
+            let a = put_selected(image, job, table, m, ids, rows, count, false, g, out, to);
             let r = put_held(job, at, h, ids, next, out, a);
             PutInterval {
                 to: r.to,
@@ -83,17 +83,17 @@ fn put_intervals<'a>(
     table: &[usize],
     m: usize,
     ids: &[u8],
-    entries: &[usize],
+    rows: &[usize],
     count: usize,
     from: usize,
     n: usize,
     out: &mut [u8],
     first: usize,
 ) -> usize
-    requires { ⌜ Inputs (now image) (now job) (now table) m ⌝ ∗ ⌜ KeptTable (now image) m (now ids) count (now entries) ⌝ ∗ ⌜ Bytes (now job) ⌝ ∗ ⌜ from ≤ length (now job) ⌝ ∗ ⌜ n ≤ 64 ⌝ }
-    requires { ⌜ T (isGot (readMany (part .read) n (drop from (now job)))) ⌝ ∗ ⌜ T (isDrawn (fillParts (valuesOf (readMany (part .read) n (drop from (now job)))) (supply (now ids)))) ⌝ ∗ ⌜ first + length (destinationBytes (keptPlaced (now image) (gapsIn (now job) m (now table)) (now ids) count (now entries)) (fillParts (valuesOf (readMany (part .read) n (drop from (now job)))) (supply (now ids)))) ≤ length (now out) ⌝ }
-    ensures { λ r. ⌜ r ≡ first + length (destinationBytes (keptPlaced (now (image .entry)) (gapsIn (now (job .entry)) m (now (table .entry))) (now (ids .entry)) count (now (entries .entry))) (fillParts (valuesOf (readMany (part .read) n (drop from (now (job .entry))))) (supply (now (ids .entry))))) ⌝ }
-    ensures { λ r. ⌜ now (out .exit) ≡ splice (now (out .entry)) first (destinationBytes (keptPlaced (now (image .entry)) (gapsIn (now (job .entry)) m (now (table .entry))) (now (ids .entry)) count (now (entries .entry))) (fillParts (valuesOf (readMany (part .read) n (drop from (now (job .entry))))) (supply (now (ids .entry))))) ⌝ }
+    requires { ⌜ Inputs (now image) (now job) (now table) m ⌝ ∗ ⌜ KeptTable (now image) m (now ids) count (now rows) ⌝ ∗ ⌜ Bytes (now job) ⌝ ∗ ⌜ from ≤ length (now job) ⌝ ∗ ⌜ n ≤ 64 ⌝ }
+    requires { ⌜ T (isGot (readMany (part .read) n (drop from (now job)))) ⌝ ∗ ⌜ T (isDrawn (fillParts (valuesOf (readMany (part .read) n (drop from (now job)))) (supply (now ids)))) ⌝ ∗ ⌜ first + length (destinationBytes (keptPlaced (now image) (gapsIn (now job) m (now table)) (now ids) count (now rows)) (fillParts (valuesOf (readMany (part .read) n (drop from (now job)))) (supply (now ids)))) ≤ length (now out) ⌝ }
+    ensures { λ r. ⌜ r ≡ first + length (destinationBytes (keptPlaced (now (image .entry)) (gapsIn (now (job .entry)) m (now (table .entry))) (now (ids .entry)) count (now (rows .entry))) (fillParts (valuesOf (readMany (part .read) n (drop from (now (job .entry))))) (supply (now (ids .entry))))) ⌝ }
+    ensures { λ r. ⌜ now (out .exit) ≡ splice (now (out .entry)) first (destinationBytes (keptPlaced (now (image .entry)) (gapsIn (now (job .entry)) m (now (table .entry))) (now (ids .entry)) count (now (rows .entry))) (fillParts (valuesOf (readMany (part .read) n (drop from (now (job .entry))))) (supply (now (ids .entry))))) ⌝ }
 {
     let mut seen = 0;
     let mut at = from;
@@ -101,27 +101,14 @@ fn put_intervals<'a>(
     let mut next = 0;
     let mut to = first;
     while seen < n {
-        let r = put_interval(
-            image,
-            job,
-            table,
-            m,
-            ids,
-            entries,
-            count,
-            g,
-            at,
-            next,
-            out,
-            to,
-        );
+        let r = put_interval(image, job, table, m, ids, rows, count, g, at, next, out, to);
         to = r.to;
         next = r.next;
         g = r.gap;
         at = r.past;
         seen += 1;
     }
-    put_selected(image, job, table, m, ids, entries, count, false, g, out, to)
+    put_selected(image, job, table, m, ids, rows, count, false, g, out, to)
 }
 
 // The destination's pieces that are kept, with the job's outputs.
@@ -131,15 +118,15 @@ pub fn put_destination<'a>(
     table: &[usize],
     m: usize,
     ids: &[u8],
-    entries: &[usize],
+    rows: &[usize],
     count: usize,
     out: &mut [u8],
     first: usize,
 ) -> usize
-    requires { ⌜ Inputs (now image) (now s) (now table) m ⌝ ∗ ⌜ KeptTable (now image) m (now ids) count (now entries) ⌝ ∗ ⌜ Bytes (now s) ⌝ ∗ ⌜ T (isGot (job .read (now s))) ⌝ }
-    requires { ⌜ T (isDrawn (fillParts (jobIn (job .read (now s)) .parts) (supply (now ids)))) ⌝ ∗ ⌜ first + length (destinationBytes (keptPlaced (now image) (gapsIn (now s) m (now table)) (now ids) count (now entries)) (fillParts (jobIn (job .read (now s)) .parts) (supply (now ids)))) ≤ length (now out) ⌝ }
-    ensures { λ r. ⌜ r ≡ first + length (destinationBytes (keptPlaced (now (image .entry)) (gapsIn (now (s .entry)) m (now (table .entry))) (now (ids .entry)) count (now (entries .entry))) (fillParts (jobIn (job .read (now (s .entry))) .parts) (supply (now (ids .entry))))) ⌝ }
-    ensures { λ r. ⌜ now (out .exit) ≡ splice (now (out .entry)) first (destinationBytes (keptPlaced (now (image .entry)) (gapsIn (now (s .entry)) m (now (table .entry))) (now (ids .entry)) count (now (entries .entry))) (fillParts (jobIn (job .read (now (s .entry))) .parts) (supply (now (ids .entry))))) ⌝ }
+    requires { ⌜ Inputs (now image) (now s) (now table) m ⌝ ∗ ⌜ KeptTable (now image) m (now ids) count (now rows) ⌝ ∗ ⌜ Bytes (now s) ⌝ ∗ ⌜ T (isGot (job .read (now s))) ⌝ }
+    requires { ⌜ T (isDrawn (fillParts (jobIn (job .read (now s)) .parts) (supply (now ids)))) ⌝ ∗ ⌜ first + length (destinationBytes (keptPlaced (now image) (gapsIn (now s) m (now table)) (now ids) count (now rows)) (fillParts (jobIn (job .read (now s)) .parts) (supply (now ids)))) ≤ length (now out) ⌝ }
+    ensures { λ r. ⌜ r ≡ first + length (destinationBytes (keptPlaced (now (image .entry)) (gapsIn (now (s .entry)) m (now (table .entry))) (now (ids .entry)) count (now (rows .entry))) (fillParts (jobIn (job .read (now (s .entry))) .parts) (supply (now (ids .entry))))) ⌝ }
+    ensures { λ r. ⌜ now (out .exit) ≡ splice (now (out .entry)) first (destinationBytes (keptPlaced (now (image .entry)) (gapsIn (now (s .entry)) m (now (table .entry))) (now (ids .entry)) count (now (rows .entry))) (fillParts (jobIn (job .read (now (s .entry))) .parts) (supply (now (ids .entry))))) ⌝ }
 {
     match records::job_head(s) {
         JobRead::Stop(_) => first,
@@ -155,7 +142,7 @@ pub fn put_destination<'a>(
             table,
             m,
             ids,
-            entries,
+            rows,
             count,
             next,
             parts,

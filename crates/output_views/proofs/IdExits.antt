@@ -1,116 +1,148 @@
--- Two ids differ where their last 8 bytes do; and what the loop over the kept ids keeps: none of those seen so far is the
--- one sought.
+-- One more id is kept and its entry marked; an id whose entry is not marked is none of the kept; and what the loop over
+-- these keeps: none of those seen so far is the one sought.
 -- Assumes nothing.
-use Prim.Native.Nat.{ℕ, suc, _+_, _-_, _^_, _≤_, _<_}
+use Prim.Native.Nat.{ℕ, _+_, _^_, _≤_, _<_}
 use native.Mathlib.Omega.{arith}
 use native.Mathlib.Numerals.{add-one}
-use native.Mathlib.Nat.{le-antisymm, add-sub-cancel-left}
+use native.Mathlib.Nat.{le-antisymm}
 use mathlib.Core.Path.{_≡_, refl, sym, ap, _∙_}
-use mathlib.Core.Bool.{Bool, true, false, _||_}
-use mathlib.Core.List.{List}
-use lib.ListN.{length, getD, take, drop, length-drop}
-use lib.Seq.{slice, slice-cons, slice-empty, take-add, drop-at, drop-drop, length-take-le}
-use mir.Val.{Fits}
-use mir.Syntax.{w64}
-use Rattle.key.specs.Order.{cmpKey, isEqual}
-use Rattle.key.specs.Word.{digits}
-use Rattle.key.specs.declared.Order.{Order}
-use Rattle.key.specs.declared.Order.the-variants.{Less, Equal, Greater}
-use Rattle.key.proofs.Linear.{key-order-is-total}
-use Rattle.format.specs.Got.{got}
-use Rattle.format.specs.Number.{readNumber}
-use Rattle.records.proofs.FieldExits.{number-is}
-use Rattle.output_views.specs.Ids.{idAt, idsAt, idIn}
-use Rattle.output_views.specs.Spans.{tailAt, Kept}
+use mathlib.Core.Bool.{Bool, true, false, _&&_, _||_, true≢false}
+use mathlib.Core.List.{List, [], _∷_, _++_}
+use lib.ListN.{length, getD, take, set, length-set}
+use lib.Seq.{slice, slice-cons, slice-empty, length-take-le, getD-set-same, getD-set-other, take-suc-set}
+use lib.Dec.{eqb}
+use borrow.Author.Tests.{eq-eqb, ne-eqb, eqb-true, eqb-false}
+use Rattle.output_views.specs.Ids.{idAt, idOf, idsOf, pairIn, entryOf, idIn}
+use Rattle.output_views.specs.Spans.{HalvesFound, Kept, KeptMore}
+use Rattle.output_views.specs.declared.ids.Halves.{Halves}
+use Rattle.output_views.proofs.Halves.{pairs-are-ids, no-pair}
 
--- ---- same_id
-pub same-is :
-    (s j : List ℕ) (p at : ℕ) {o : Order} {b : Bool}
-    → o ≡ cmpKey (take (p + 16 - p) (drop p s)) (take (at + 16 - at) (drop at j))
-    → b ≡ isEqual o
-    → b ≡ isEqual (cmpKey (idAt s p) (idAt j at))
-same-is s j p at ho hb = hb ∙ rw (ho, add-sub-cancel-left, add-sub-cancel-left)
+-- ---- keep
+ids-append :
+    (hs ts : List ℕ) (h t : ℕ) → length hs ≡ length ts → idsOf (hs ++ (h ∷ [])) (ts ++ (t ∷ [])) ≡ idsOf hs ts ++ (idOf h t ∷ [])
+unfolding idsOf
+ids-append [] [] h t e = refl
+ids-append [] (y ∷ ts) h t e = absurd (omega arith)
+ids-append (x ∷ hs) [] h t e = absurd (omega arith)
+ids-append (x ∷ hs) (y ∷ ts) h t e = rw (ids-append hs ts h t (omega arith))
 
--- ---- the number in an id's last 8 bytes
-pub number-value : (s : List ℕ) (at : ℕ) {v : ℕ} → at + 8 ≤ length s → readNumber 8 (drop at s) ≡ got v (drop (at + 8) s) → v ≡ digits 0 (take 8 (drop at s))
-number-value s at h e = let g = number-is s at 8 h in cc
+-- a mark more leaves those that are there
+still-marked : (marks : List Bool) (e d : ℕ) → d < length marks → getD marks e false ≡ true → getD (set marks d true) e false ≡ true
+still-marked marks e d h m = go (eqb e d) refl
+  where
+    go : (b : Bool) → eqb e d ≡ b → getD (set marks d true) e false ≡ true
+    go true q = rw (eqb-true e d q) (getD-set-same marks d true false h)
+    go false q = getD-set-other marks d e true false (eqb-false e d q) ∙ m
 
-tail-of-id : (s : List ℕ) (p : ℕ) → p + 16 ≤ length s → digits 0 (drop 8 (idAt s p)) ≡ tailAt s p
-tail-of-id s p h =
-    let l : 8 ≤ length (drop p s) = rw length-drop (omega arith) in
-    ap (λ (l : List ℕ). digits 0 (drop 8 l)) (take-add 8 8 (drop p s))
-    ∙ ap (digits 0) (drop-at (take 8 (drop p s)) (take 8 (drop 8 (drop p s))) 8 (length-take-le 8 (drop p s) l))
-    ∙ rw drop-drop
+module _ {heads tails : List ℕ} {marks : List Bool} {k : ℕ} (p : Kept heads tails marks k) where
+  pub entry-in : (head tail : ℕ) → entryOf head tail < length marks
+  entry-in head tail = omega (arith, p .marks-long)
 
-module _ (s j : List ℕ) (p at : ℕ) (h : p + 16 ≤ length s) (k : at + 16 ≤ length j) where
-  pub tails-differ : (tailAt s p ≡ tailAt j at → ⊥) → isEqual (cmpKey (idAt s p) (idAt j at)) ≡ false
-  tails-differ d = go (cmpKey (idAt s p) (idAt j at)) refl
-    where
-      go : (o : Order) → cmpKey (idAt s p) (idAt j at) ≡ o → isEqual o ≡ false
-      go Less e = refl
-      go Greater e = refl
-      go Equal e =
-          let same = key-order-is-total .equal (idAt s p) (idAt j at) e in
-          absurd (d (sym (tail-of-id s p h) ∙ ap (λ (l : List ℕ). digits 0 (drop 8 l)) same ∙ tail-of-id j at k))
+  module _ (hh : k < length heads) (ht : k < length tails) (h t : ℕ) (h-small : h < 256 ^ 8) (t-small : t < 256 ^ 8) where
+    head-at : (i : ℕ) → i < k + 1 → (b : Bool) → eqb i k ≡ b → getD (set heads k h) i 0 < 256 ^ 8
+    head-at i l true q = rw (eqb-true i k q, getD-set-same heads k h 0 hh) h-small
+    head-at i l false q =
+        let d = eqb-false i k q in
+        rw (getD-set-other heads k i h 0 d) (p .head-small i (omega arith))
 
--- ---- kept_has
-pub tail-fits : (j : List ℕ) (at : ℕ) → at + 16 ≤ length j → length j < 2 ^ 64 → Fits w64 (at + 8)
-tail-fits j at h l = omega arith
+    tail-at : (i : ℕ) → i < k + 1 → (b : Bool) → eqb i k ≡ b → getD (set tails k t) i 0 < 256 ^ 8
+    tail-at i l true q = rw (eqb-true i k q, getD-set-same tails k t 0 ht) t-small
+    tail-at i l false q =
+        let d = eqb-false i k q in
+        rw (getD-set-other tails k i t 0 d) (p .tail-small i (omega arith))
 
-pub tail-there : (j : List ℕ) (at : ℕ) → at + 16 ≤ length j → at + 8 + 8 ≤ length j
-tail-there j at h = omega arith
+    mark-at : (i : ℕ) → i < k + 1 → (b : Bool) → eqb i k ≡ b → getD (set marks (entryOf h t) true) (entryOf (getD (set heads k h) i 0) (getD (set tails k t) i 0)) false ≡ true
+    mark-at i l true q =
+        rw (eqb-true i k q, getD-set-same heads k h 0 hh, getD-set-same tails k t 0 ht) (getD-set-same marks (entryOf h t) true false (entry-in h t))
+    mark-at i l false q =
+        let d = eqb-false i k q in
+        rw (getD-set-other heads k i h 0 d, getD-set-other tails k i t 0 d) (still-marked marks _ (entryOf h t) (entry-in h t) (p .marked i (omega arith)))
 
-pub record Seeking (s places tails : List ℕ) (k : ℕ) (j : List ℕ) (at tail i : ℕ) : Type 0 where
-  pub kept : Kept s places tails k
+    more : Kept (set heads k h) (set tails k t) (set marks (entryOf h t) true) (k + 1)
+    more =
+        record {
+          heads-long = rw length-set (omega arith);
+          tails-long = rw length-set (omega arith);
+          marks-long = length-set marks (entryOf h t) true ∙ p .marks-long;
+          head-small = λ i l. head-at i l (eqb i k) refl;
+          tail-small = λ i l. tail-at i l (eqb i k) refl;
+          marked = λ i l. mark-at i l (eqb i k) refl;
+        }
+
+    ids-more : idsOf (take (k + 1) (set heads k h)) (take (k + 1) (set tails k t)) ≡ idsOf (take k heads) (take k tails) ++ (idOf h t ∷ [])
+    ids-more =
+        let l = length-take-le k heads (p .heads-long) ∙ sym (length-take-le k tails (p .tails-long)) in
+        rw (add-one, take-suc-set heads k h hh, take-suc-set tails k t ht) (ids-append (take k heads) (take k tails) h t l)
+
+  pub kept-more :
+      (hh : k < length heads) (ht : k < length tails) {s : List ℕ} {at : ℕ} {r : Halves} {e : ℕ}
+      → HalvesFound s at r
+      → e ≡ entryOf (r .head) (r .tail)
+      → KeptMore heads tails k (idAt s at) (set heads k (r .head)) (set tails k (r .tail)) (set marks e true)
+  kept-more hh ht {s} {at} {r} f q =
+      rw q record {
+        heads-long = length-set heads k (r .head);
+        tails-long = length-set tails k (r .tail);
+        kept = more hh ht (r .head) (r .tail) (f .head-small) (f .tail-small);
+        ids = ids-more hh ht (r .head) (r .tail) (f .head-small) (f .tail-small) ∙ ap (λ i. idsOf (take k heads) (take k tails) ++ (i ∷ [])) (sym (f .is));
+      }
+
+  -- ---- kept_has
+  module _ {s : List ℕ} {at : ℕ} {r : Halves} (f : HalvesFound s at r) where
+    same-question : pairIn (take k heads) (take k tails) (r .head) (r .tail) ≡ idIn (idsOf (take k heads) (take k tails)) (idAt s at)
+    same-question =
+        pairs-are-ids (r .head) (r .tail) (f .head-small) (f .tail-small) k heads tails (p .head-small) (p .tail-small)
+        ∙ ap (idIn (idsOf (take k heads) (take k tails))) (sym (f .is))
+
+    pub sought-is : {b : Bool} → b ≡ pairIn (take k heads) (take k tails) (r .head) (r .tail) → b ≡ idIn (idsOf (take k heads) (take k tails)) (idAt s at)
+    sought-is e = e ∙ same-question
+
+    pub not-marked : {e : ℕ} → e ≡ entryOf (r .head) (r .tail) → getD marks e false ≡ false → false ≡ idIn (idsOf (take k heads) (take k tails)) (idAt s at)
+    not-marked q z =
+        sym (no-pair (r .head) (r .tail) k heads tails (λ i l a b. true≢false (sym (rw (a, b) at (p .marked i l)) ∙ rw q at z)))
+        ∙ same-question
+
+pub ruleset keep-exits = (entry-in, kept-more)
+
+pub ruleset has-exits = (entry-in, sought-is, not-marked)
+
+-- ---- has_pair
+pub record Seeking (heads tails : List ℕ) (k head tail i : ℕ) : Type 0 where
+  pub heads-long : k ≤ length heads
+  pub tails-long : k ≤ length tails
   pub upto : i ≤ k
-  pub inside : at + 16 ≤ length j
-  pub number : tail ≡ tailAt j at
-  pub rest : idIn (idsAt s (take k places)) (idAt j at) ≡ idIn (idsAt s (slice i k places)) (idAt j at)
+  pub rest : pairIn (take k heads) (take k tails) head tail ≡ pairIn (slice i k heads) (slice i k tails) head tail
 
-pub seeking-begin :
-    {s places tails : List ℕ} {k : ℕ} {j : List ℕ} {at tail : ℕ}
-    → Kept s places tails k
-    → at + 16 ≤ length j
-    → readNumber 8 (drop (at + 8) j) ≡ got tail (drop (at + 8 + 8) j)
-    → Seeking s places tails k j at tail 0
-seeking-begin {s} {places} {tails} {k} {j} {at} p h e =
-    record { kept = p; upto = omega arith; inside = h; number = number-value j (at + 8) (omega arith) e; rest = refl }
+pub seeking-begin : (heads tails : List ℕ) (k head tail : ℕ) → k ≤ length heads → k ≤ length tails → Seeking heads tails k head tail 0
+seeking-begin heads tails k head tail a b = record { heads-long = a; tails-long = b; upto = omega arith; rest = refl }
 
-module _ {s places tails : List ℕ} {k : ℕ} {j : List ℕ} {at tail i : ℕ} (p : Seeking s places tails k j at tail i) where
-  pub none-is : k ≤ i → false ≡ idIn (idsAt s (take k places)) (idAt j at)
-  unfolding idIn
-  none-is h = rw (p .rest, le-antisymm (p .upto) h, slice-empty)
-
-  pub id-there : at + 16 ≤ length j
-  id-there = p .inside
+module _ {heads tails : List ℕ} {k head tail i : ℕ} (p : Seeking heads tails k head tail i) where
+  pub none-is : k ≤ i → false ≡ pairIn (take k heads) (take k tails) head tail
+  unfolding pairIn
+  none-is h = rw (p .rest, le-antisymm (p .upto) h, slice-empty k heads)
 
   module _ (h : i < k) where
-    pub place-in : i < length places
-    place-in = omega (arith, p .kept .places-long)
+    pub head-in : i < length heads
+    head-in = omega (arith, p .heads-long)
 
     pub tail-in : i < length tails
-    tail-in = omega (arith, p .kept .tails-long)
+    tail-in = omega (arith, p .tails-long)
 
-    pub kept-there : getD places i 0 + 16 ≤ length s
-    kept-there = p .kept .inside i h
+    step : pairIn (take k heads) (take k tails) head tail ≡ ((eqb (getD tails i 0) tail && eqb (getD heads i 0) head) || pairIn (slice (i + 1) k heads) (slice (i + 1) k tails) head tail)
+    unfolding pairIn
+    step = p .rest ∙ rw (slice-cons i k heads 0 h (p .heads-long), slice-cons i k tails 0 h (p .tails-long), add-one)
 
-    step : idIn (idsAt s (take k places)) (idAt j at) ≡ (isEqual (cmpKey (idAt s (getD places i 0)) (idAt j at)) || idIn (idsAt s (slice (suc i) k places)) (idAt j at))
-    unfolding idIn
-    step = p .rest ∙ ap (λ l. idIn (idsAt s l) (idAt j at)) (slice-cons i k places 0 h (p .kept .places-long))
+    onward : (eqb (getD tails i 0) tail && eqb (getD heads i 0) head) ≡ false → Seeking heads tails k head tail (i + 1)
+    onward e = record { heads-long = p .heads-long; tails-long = p .tails-long; upto = omega arith; rest = step ∙ rw e }
 
-    onward : isEqual (cmpKey (idAt s (getD places i 0)) (idAt j at)) ≡ false → Seeking s places tails k j at tail (i + 1)
-    onward e =
-        record { kept = p .kept; upto = omega arith; inside = p .inside; number = p .number; rest = step ∙ rw (e, add-one) }
+    pub other-tail : (getD tails i 0 ≡ tail → ⊥) → Seeking heads tails k head tail (i + 1)
+    other-tail d = onward (rw (ne-eqb _ _ d))
 
-    pub other-tail : (getD tails i 0 ≡ tail → ⊥) → Seeking s places tails k j at tail (i + 1)
-    other-tail d =
-        onward (tails-differ s j (getD places i 0) at kept-there (p .inside) (λ e. d (p .kept .tail i h ∙ e ∙ sym (p .number))))
+    module _ (e : getD tails i 0 ≡ tail) where
+      pub other-head : (getD heads i 0 ≡ head → ⊥) → Seeking heads tails k head tail (i + 1)
+      other-head d = onward (rw (eq-eqb _ _ e, ne-eqb _ _ d))
 
-    module _ {b : Bool} (e : b ≡ isEqual (cmpKey (idAt s (getD places i 0)) (idAt j at))) where
-      pub this-is : b ≡ true → true ≡ idIn (idsAt s (take k places)) (idAt j at)
-      this-is q = sym (step ∙ rw (← e, q))
+      pub this-is : getD heads i 0 ≡ head → true ≡ pairIn (take k heads) (take k tails) head tail
+      this-is q = sym (step ∙ rw (eq-eqb _ _ e, eq-eqb _ _ q))
 
-      pub other-id : b ≡ false → Seeking s places tails k j at tail (i + 1)
-      other-id q = onward (sym e ∙ q)
-
-pub ruleset seek-exits = (tail-fits, tail-there, seeking-begin, none-is, id-there, place-in, tail-in, kept-there, other-tail, this-is, other-id)
+pub ruleset seek-exits = (seeking-begin, none-is, head-in, tail-in, other-tail, other-head, this-is)

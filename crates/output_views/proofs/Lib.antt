@@ -1,6 +1,6 @@
 pub mod GapExits
+pub mod Halves
 pub mod IdExits
-pub mod PartThere
 pub mod OutputExits
 pub mod Exchange
 pub mod ViewExits

@@ -27,10 +27,10 @@ use Rattle.records.proofs.Walk.{Walk, walk-begin, walk-all, walk-never, walk-he
 use Rattle.incremental_progress.specs.Jobs.{outputs}
 use Rattle.incremental_progress.proofs.Lists.{flatMap-append}
 use Rattle.progress.specs.Spans.{jobIn}
+use Rattle.progress.proofs.PartThere.{partWith, part-stops, outputs-place, outputs-there, part-past, part-here}
 use Rattle.output_views.specs.Ids.{idAt, idIn, anyIn}
 use Rattle.output_views.specs.Spans.{OutputsPassed}
 use Rattle.output_views.specs.declared.ids.Outputs.{Outputs}
-use Rattle.output_views.proofs.PartThere.{partWith, part-stops, outputs-place, outputs-there, part-past, part-here}
 
 any-append : (is : List Key) (ts us : List Table) → anyIn is (ts ++ us) ≡ (anyIn is ts || anyIn is us)
 unfolding anyIn

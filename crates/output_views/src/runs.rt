@@ -1,5 +1,6 @@
 // The views of the destination, and the runs of an image.
 use crate::ids::job_kept;
+use crate::ids::keep;
 use crate::left::has_piece;
 use records::CountRead;
 use records::JobRead;
@@ -30,8 +31,9 @@ fn output_left<'a>(
     requires { ⌜ from ≤ length (now given) ⌝ ∗ ⌜ m ≤ 1024 ⌝ ∗ ⌜ T (isGot (readMany (view .read) m (drop from (now given)))) ⌝ ∗ ⌜ T (isGot (job .read (now s))) ⌝ ∗ ⌜ Table (now s) n (now gaps) ⌝ }
     ensures { λ r. ⌜ r ≡ not (viewsCovered (gapsIn (now (s .entry)) n (now (gaps .entry))) (jobIn (job .read (now (s .entry))) .parts) (valuesOf (readMany (view .read) m (drop from (now (given .entry)))))) ⌝ }
 {
-    let mut places = [0usize; 1024];
+    let mut heads = [0u64; 1024];
     let mut tails = [0u64; 1024];
+    let mut marks = [false; 8192];
     let mut k = 0;
     let mut seen = 0;
     let mut at = from;
@@ -43,9 +45,7 @@ fn output_left<'a>(
             ViewRead::At(v, next) => {
                 if has_piece(given, manifest::effective(given, v), s, gaps, n) {
                     let t = v.table;
-                    let id = t.id;
-                    places[k] = id;
-                    tails[k] = records::number_here(given, id + 8, 8);
+                    keep(given, t.id, &mut heads, &mut tails, &mut marks, k);
                     k += 1;
                     at = next;
                     seen += 1;
@@ -56,7 +56,7 @@ fn output_left<'a>(
             }
         }
     }
-    job_kept(s, given, &places, &tails, k)
+    job_kept(s, &heads, &tails, &marks, k)
 }
 
 // The check of m runs that are there: each whose id is the destination's, since ids are not known to differ.

@@ -1,7 +1,7 @@
 -- The piece of a view in one gap is what the definition has: the view itself where the piece is all that it shows.
 -- Assumes nothing.
 use mathlib.Core.Path.{_≡_, refl, sym, ap, _∙_}
-use mathlib.Core.Bool.{Bool, true, false, _&&_}
+use mathlib.Core.Bool.{Bool, true, false, not, _&&_, false≢true}
 use mathlib.Core.List.{List, [], _∷_, map}
 use Rattle.base.specs.Pick.{pick}
 use Rattle.key.specs.Order.{isEqual, atMost}
@@ -14,13 +14,14 @@ use Rattle.key.specs.Order.{Key}
 use Rattle.comparable_range.specs.Range.{rangeOf}
 use Rattle.format.specs.Range.{rangeIn}
 use Rattle.format.specs.declared.range.BoundSpan.{BoundSpan}
-use Rattle.comparable_range.specs.Cut.{cmpCut, startCut, endCut}
+use Rattle.comparable_range.specs.Cut.{Cut as Place, cmpCut, cutAtMost, cutBelow, _≼_, later, sooner, startCut, endCut}
 use Rattle.comparable_range.specs.declared.Side.{Side}
 use Rattle.comparable_range.specs.declared.Side.the-variants.{First, Second}
 use Rattle.comparable_range.specs.declared.Sides.{Sides}
 use Rattle.comparable_range.specs.declared.Sides.the-variants.{Nothing as NoSides, From}
-use Rattle.comparable_range.proofs.Cut.{cut-order-is-total}
-use Rattle.comparable_range.proofs.ByCuts.{cmp-start, cmp-end}
+use Rattle.comparable_range.proofs.Cut.{cut-order-is-total, cut-below-not}
+use Rattle.comparable_range.proofs.Lattice.{≼-later-l, ≼-later-r, sooner-≼-l, sooner-≼-r}
+use Rattle.comparable_range.proofs.ByCuts.{cmp-start, cmp-end, non-empty-by-cuts, start-side-cut, end-side-cut}
 use Rattle.key.proofs.Linear.{cmp-self}
 use Rattle.key.specs.Laws.{Linear}
 use Rattle.key.specs.Order.{swap}
@@ -104,19 +105,58 @@ module _ (r g : Range) {o : Sides} (ho : o ≡ intersectSides r g) where
   unfolding pieceOf
   piece-none e = rw (← ho, e)
 
-  module _ {a b : Side} (e : o ≡ From a b) {c : Order} (hc : c ≡ cmpBound true (r .start) (g .start)) {q t : Bool} (hq : q ≡ isEqual c) (ht : t ≡ allShown a b q) where
-    test : t ≡ wholeSides r g a b
-    test = ht ∙ rw (hq, hc)
-
-    pub piece-whole : t ≡ true → Whole ≡ pieceOf r g
+  module _ {a b : Side} (e : o ≡ From a b) where
+    sides : pieceOf r g ≡ pick (wholeSides r g a b) Whole (Cut a b)
     unfolding pieceOf
-    piece-whole w = rw (← ho, e, ← test, w)
+    sides = rw (← ho, e)
 
-    pub piece-cut : t ≡ false → Cut a b ≡ pieceOf r g
-    unfolding pieceOf
-    piece-cut w = rw (← ho, e, ← test, w)
+    pub piece-end-cut : b ≡ Second → Cut a b ≡ pieceOf r g
+    piece-end-cut y = sym (sides ∙ rw y)
 
-pub ruleset piece-exits = (piece-none, piece-whole, piece-cut)
+    pub piece-own : b ≡ First → a ≡ First → Whole ≡ pieceOf r g
+    piece-own y x = sym (sides ∙ rw (y, x))
+
+    module _ (y : b ≡ First) (x : a ≡ Second) {c : Order} (hc : c ≡ cmpBound true (r .start) (g .start)) {q : Bool} (hq : q ≡ isEqual c) where
+      equal : isEqual (cmpBound true (r .start) (g .start)) ≡ q
+      equal = sym (hq ∙ ap isEqual hc)
+
+      pub piece-start-own : q ≡ true → Whole ≡ pieceOf r g
+      piece-start-own w = sym (sides ∙ rw (y, x, equal, w))
+
+      pub piece-start-cut : q ≡ false → Cut a b ≡ pieceOf r g
+      piece-start-cut w = sym (sides ∙ rw (y, x, equal, w))
+
+-- ---- a gap that is apart from the range
+apart : (r g : Range) → sooner (endCut (r .end)) (endCut (g .end)) ≼ later (startCut (r .start)) (startCut (g .start)) → Nothing ≡ pieceOf r g
+unfolding pieceOf intersectSides
+apart r g h =
+    let f : nonEmpty (overlap r g) ≡ false
+    = non-empty-by-cuts (overlap r g)
+    ∙ cut-below-not (startCut (overlap r g .start)) (endCut (overlap r g .end))
+    ∙ rw (start-side-cut (r .start) (g .start), end-side-cut (r .end) (g .end), h .holds) in
+    rw f
+
+fails : {c d : Place} {t : Bool} → t ≡ cutBelow c d → t ≡ false → d ≼ c
+fails {c} {d} e f = go (cutAtMost d c) refl (sym (cut-below-not c d) ∙ sym e ∙ f)
+  where
+    go : (t : Bool) → cutAtMost d c ≡ t → not t ≡ false → d ≼ c
+    go true q n = record { holds = q }
+    go false q n = absurd (false≢true (sym n))
+
+-- it starts past the range's end, or ends before its start
+pub gap-past : {t : Bool} (r g : Range) → t ≡ nonEmpty (record { start = g .start; end = r .end }) → t ≡ false → Nothing ≡ pieceOf r g
+gap-past r g e f =
+    let h : endCut (r .end) ≼ startCut (g .start) = fails (e ∙ non-empty-by-cuts _) f in
+    apart r g (≼-later-r (startCut (r .start)) (startCut (g .start)) (sooner-≼-l (endCut (r .end)) (endCut (g .end)) h))
+
+pub gap-before : {t : Bool} (r g : Range) → t ≡ nonEmpty (record { start = r .start; end = g .end }) → t ≡ false → Nothing ≡ pieceOf r g
+gap-before r g e f =
+    let h : endCut (g .end) ≼ startCut (r .start) = fails (e ∙ non-empty-by-cuts _) f in
+    apart r g (≼-later-l (startCut (r .start)) (startCut (g .start)) (sooner-≼-r (endCut (r .end)) (endCut (g .end)) h))
+
+pub ruleset apart-exits = (gap-past, gap-before)
+
+pub ruleset piece-exits = (piece-none, piece-end-cut, piece-own, piece-start-own, piece-start-cut)
 
 -- ---- piece_in: the keys are parts of the slices
 pub piece-there :

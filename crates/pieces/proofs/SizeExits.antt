@@ -2,37 +2,33 @@
 -- Assumes nothing.
 use Prim.Native.Nat.{ℕ, zero, suc, _+_, _-_, _*_, _≤_, _<_, _^_}
 use native.Mathlib.Omega.{arith}
-use native.Mathlib.Nat.{add-zero}
 use mathlib.Core.Path.{_≡_, refl, sym, ap, _∙_}
-use mathlib.Core.List.{List, [], _∷_, _++_, map, flatMap, append-assoc, append-nil, tail-eq-of-cons-eq}
-use lib.ListN.{length, take, drop, drop-of-length-le, length-append, length-take, length-drop}
+use mathlib.Core.List.{List, [], _∷_, _++_, map, flatMap, append-assoc, tail-eq-of-cons-eq}
+use lib.ListN.{length, take, drop, drop-of-length-le, length-append, length-drop}
 use lib.Seq.{length-take-le}
 use lib.Dec.{T}
 use mir.Val.{Fits}
 use mir.Syntax.{w64}
-use Rattle.base.specs.Bytes.{Bytes}
 use Rattle.comparable_range.specs.Range.{Range, supplied, intersect}
 use Rattle.comparable_range.specs.declared.Side.{Side}
-use Rattle.format.specs.Got.{Got, got}
+use Rattle.format.specs.Got.{got}
 use Rattle.format.specs.Range.{BoundInside, rangeIn, writeRange}
 use Rattle.records.specs.Form.{readMany, writeMany}
 use Rattle.records.specs.Found.{isGot, valuesOf}
 use Rattle.records.specs.Values.{View}
-use Rattle.records.specs.Layouts.{table, view}
+use Rattle.records.specs.Layouts.{view}
 use Rattle.records.specs.Spans.{viewIn}
 use Rattle.records.proofs.Many.{Ahead}
 use Rattle.records.proofs.Walk.{Walk, walk-begin, walk-all, walk-here, walk-ahead, walk-onward}
 use Rattle.manifest.specs.Ranges.{effective}
-use Rattle.manifest.specs.Spans.{EffectiveFound}
 use Rattle.manifest.specs.declared.ranges.RangeSpan.{RangeSpan}
 use Rattle.incremental_progress.specs.Intervals.{listed}
-use Rattle.incremental_progress.specs.Draws.{Ten, Entry, whole, cut, pieceEntry, Drawn, used-up, supply, next, newId, draw, drawnView, fill, fillAll}
+use Rattle.incremental_progress.specs.Draws.{Entry, pieceEntry, used-up, supply, draw, drawnView, fillAll}
 use Rattle.incremental_progress.specs.Draws as draws
 use Rattle.incremental_progress.specs.Gaps.{pieces, gapEntries}
 use Rattle.incremental_progress.specs.declared.Draw.{Draw}
 use Rattle.incremental_progress.specs.declared.Draw.the-variants.{At as DrawAt, UsedUp as DrawUsedUp}
 use Rattle.incremental_progress.proofs.Lists.{map-append}
-use Rattle.drawn.specs.Bytes.{cutBytes, tableBytes}
 use Rattle.drawn.specs.Supply.{idAt, DrawFound, viewBytes, SizedFound}
 use Rattle.drawn.specs.declared.Sized.{Sized}
 use Rattle.drawn.specs.declared.Sized.the-variants.{At as SizedAt, UsedUp as SizedUsedUp}
@@ -44,7 +40,6 @@ use Rattle.pieces.specs.Sizes.{OneMost, SizedMost, RunSizedFound, RunSiz
 use Rattle.pieces.specs.declared.held.ViewHeld.{ViewHeld}
 use Rattle.pieces.specs.declared.piece.Piece.{Piece}
 use Rattle.pieces.specs.declared.piece.Piece.the-variants.{Nothing, Whole, Cut}
-use Rattle.pieces.specs.declared.sizes.RunSized.{RunSized}
 use Rattle.pieces.specs.declared.sizes.RunSized.the-variants.{At, UsedUp}
 use Rattle.pieces.proofs.OnePiece.{one-gap}
 use Rattle.pieces.proofs.HeldExits.{held-place, held-id, held-table-bytes, held-bytes}
@@ -54,7 +49,7 @@ pub next-gap : (g : Range) (gs : List Range) (v : View) → gapEntries (g ∷ gs
 unfolding gapEntries pieces flatMap entriesIn
 next-gap g gs v = map-append (pieceEntry v) (listed (intersect (effective v) g)) (flatMap (λ h. listed (intersect (effective v) h)) gs) ∙ ap (λ l. l ++ map (pieceEntry v) (flatMap (λ h. listed (intersect (effective v) h)) gs)) (one-gap v g)
 
-gaps-long : (s : List ℕ) (n : ℕ) (t : List ℕ) → length (gapsIn s n t) ≡ n
+pub gaps-long : (s : List ℕ) (n : ℕ) (t : List ℕ) → length (gapsIn s n t) ≡ n
 unfolding gapsIn
 gaps-long s zero t = refl
 gaps-long s (suc n) t = rw (gaps-long s n (drop 6 t))
@@ -272,8 +267,8 @@ run-sizing-begin image first n job gap-table m ids from i h c t f =
       short = omega arith;
     }
 
--- what is left begins with the view that comes next
-same-rest : {A : Type 0} (seen l : List A) (a : A) (tail : List A) → seen ++ l ≡ seen ++ (a ∷ tail) → l ≡ a ∷ tail
+-- what is left begins with what comes next
+pub same-rest : {A : Type 0} (seen l : List A) (a : A) (tail : List A) → seen ++ l ≡ seen ++ (a ∷ tail) → l ≡ a ∷ tail
 same-rest [] l a tail e = e
 same-rest (x ∷ seen) l a tail e = same-rest seen l a tail (tail-eq-of-cons-eq e)
 

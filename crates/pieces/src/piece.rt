@@ -7,7 +7,7 @@ use manifest::RangeSpan;
 ghost use mathlib.Core.Path.{_≡_};
 ghost use Rattle.comparable_range.specs.Range.{rangeOf};
 ghost use Rattle.format.specs.Range.{BoundInside, rangeIn};
-ghost use Rattle.pieces.specs.Pieces.{pieceOf, allShown};
+ghost use Rattle.pieces.specs.Pieces.{pieceOf};
 
 pub enum Piece {
     Nothing,
@@ -15,21 +15,8 @@ pub enum Piece {
     Cut(Side, Side),
 }
 
-// Whether bounds from these sides are the view's own: where the gap supplies the start, it may be the same start.
-fn all_shown(a: Side, b: Side, same: bool) -> bool
-    ensures { λ r. ⌜ r ≡ allShown a b same ⌝ }
-{
-    match b {
-        Side::Second => false,
-        Side::First => match a {
-            Side::First => true,
-            Side::Second => same,
-        },
-    }
-}
-
-// The piece of a range in a gap: each is its start's kind and key, then its end's.
-fn piece_of<'a>(
+// The piece of a range in a gap that they share a key or a bound with.
+fn piece_met<'a>(
     ka: Kind,
     a: &'a [u8],
     kb: Kind,
@@ -43,17 +30,42 @@ fn piece_of<'a>(
 {
     match comparable_range::intersect(ka, a, kb, b, kc, c, kd, d) {
         Sides::Nothing => Piece::Nothing,
-        Sides::From(s, t) => {
-            if all_shown(
-                s,
-                t,
-                key::is_equal(comparable_range::cmp_bound(ka, a, kc, c, true)),
-            ) {
-                return Piece::Whole;
-            }
-            Piece::Cut(s, t)
+        Sides::From(s, t) => match t {
+            Side::Second => Piece::Cut(s, t),
+            Side::First => match s {
+                Side::First => Piece::Whole,
+                Side::Second => {
+                    // The gap's start may be the range's own.
+                    if key::is_equal(comparable_range::cmp_bound(ka, a, kc, c, true)) {
+                        return Piece::Whole;
+                    }
+                    Piece::Cut(s, t)
+                }
+            },
+        },
+    }
+}
+
+// The piece of a range in a gap: each is its start's kind and key, then its end's. Mostly they are apart, which one or two
+// comparisons tell.
+fn piece_of<'a>(
+    ka: Kind,
+    a: &'a [u8],
+    kb: Kind,
+    b: &'a [u8],
+    kc: Kind,
+    c: &'a [u8],
+    kd: Kind,
+    d: &'a [u8],
+) -> Piece
+    ensures { λ r. ⌜ r ≡ pieceOf (rangeOf ka (now (a .entry)) kb (now (b .entry))) (rangeOf kc (now (c .entry)) kd (now (d .entry))) ⌝ }
+{
+    if comparable_range::non_empty(kc, c, kb, b) {
+        if comparable_range::non_empty(ka, a, kd, d) {
+            return piece_met(ka, a, kb, b, kc, c, kd, d);
         }
     }
+    Piece::Nothing
 }
 
 // The piece of a range that stands in image, in a gap whose bounds stand in job.

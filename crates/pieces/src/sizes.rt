@@ -181,32 +181,25 @@ pub fn views_sized<'a>(
 {
     let mut seen = 0;
     let mut at = first;
-    let mut views = 0;
-    let mut bytes = 0;
-    let mut next = from;
+    let mut some = 0;
+    let mut long = 0;
+    let mut then = from;
     while seen < n {
         let h = view_held(image, at);
-        match view_sized(image, at, h, job, table, m, ids, next) {
-            Sized::UsedUp => {
-                return RunSized::UsedUp;
-            }
-            Sized::At {
-                views: more,
-                bytes: long,
-                next: then,
-            } => {
-                views += more;
-                bytes += long;
-                next = then;
-                at = h.past;
-                seen += 1;
-            }
-        }
+        let Sized::At { views, bytes, next } = view_sized(image, at, h, job, table, m, ids, then)
+        else {
+            return RunSized::UsedUp;
+        };
+        some += views;
+        long += bytes;
+        then = next;
+        at = h.past;
+        seen += 1;
     }
     RunSized::At {
-        views,
-        bytes,
-        next,
+        views: some,
+        bytes: long,
+        next: then,
         past: at,
     }
 }

@@ -1,4 +1,5 @@
 pub mod TableLaws
 pub mod TableExits
+pub mod PartThere
 pub mod PartExits
 pub mod GapExits

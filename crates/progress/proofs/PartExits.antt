@@ -13,20 +13,19 @@ use Rattle.key.specs.declared.Order.{Order}
 use Rattle.comparable_range.specs.Range.{Bound, Range, boundOf}
 use Rattle.comparable_range.specs.declared.Kind.{Kind}
 use Rattle.comparable_range.specs.declared.Kind.the-variants.{Unbounded, Included, Excluded}
-use Rattle.format.specs.Got.{Got, got, stop, andThen}
+use Rattle.format.specs.Got.{Got, stop}
 use Rattle.format.specs.Range.{boundIn, rangeIn, BoundInside}
 use Rattle.format.specs.declared.range.BoundSpan.{BoundSpan}
 use Rattle.records.specs.Form.{readMany}
 use Rattle.records.specs.Found.{isGot, valuesOf}
 use Rattle.records.specs.Values.{Table}
-use Rattle.records.specs.Layouts.{table, partOf, part}
+use Rattle.records.specs.Layouts.{table, part}
 use Rattle.records.specs.Spans.{tableIn, TableFound, partHead, PartFound}
 use Rattle.records.specs.declared.tables.TableSpan.{TableSpan}
 use Rattle.records.specs.declared.tables.TableRead.{TableRead}
 use Rattle.records.specs.declared.tables.TableRead.the-variants.{At as TableAt, Stop as TableStop}
 use Rattle.records.specs.declared.parts.PartRead.{PartRead}
 use Rattle.records.specs.declared.parts.PartRead.the-variants.{At as PartAt, Stop as PartStop}
-use Rattle.records.proofs.PartExits.{part-is}
 use Rattle.records.proofs.Walk.{Walk, walk-begin, walk-all, walk-never, walk-onward}
 use Rattle.incremental_progress.specs.Intervals.{Interval, startBound, endBound}
 use Rattle.incremental_progress.specs.Parts.{keyOf, lastWritten, isKey, upToKey, durable}
@@ -35,6 +34,7 @@ use Rattle.progress.specs.declared.parts.LastWritten.{LastWritten}
 use Rattle.progress.specs.declared.parts.Durable.{Durable}
 use Rattle.progress.specs.declared.parts.Durable.the-variants.{None, At}
 use Rattle.progress.specs.declared.parts.PartProgress.{PartProgress}
+use Rattle.progress.proofs.PartThere.{partWith, part-stops, outputs-place, outputs-there as tables-there, part-past}
 
 -- ---- last_written
 pub record WrittenSeen (s : List ℕ) (from n k : ℕ) (w : LastWritten) : Type 0 where
@@ -179,21 +179,14 @@ module _ (s : List ℕ) (a b : BoundSpan) (w : LastWritten) {c : Bool} where
 pub ruleset durable-exits = (all-durable, none-written, start-written, up-to-last)
 
 -- ---- part_progress
-outputs-of : (r : Range) (c : Bool) (m : ℕ) (g : Got (List Table)) → T (isGot (andThen g (λ ts q. got (partOf (r, ((c, m), ts))) q))) → T (isGot g)
-outputs-of r c m (got ts q) t = tt
-outputs-of r c m (stop k) t = t
-
 never-stops : {A : Type 0} (g : Got A) (k : ℕ) → T (isGot g) → g ≡ stop k → ⊥
 never-stops g k t e = rw e at t
 
 module _ (s : List ℕ) (at : ℕ) (t : T (isGot (part .read (drop at s)))) {r : PartRead} (f : PartFound s (partHead .read (drop at s)) r) where
   pub part-never : {k : ℕ} {x : PartProgress} → r ≡ PartStop k → PartPassed s (part .read (drop at s)) x
-  part-never {k} q = absurd (never-stops (part .read (drop at s)) k t (part-is (drop at s) ∙ rw (← (f .meaning), q)))
+  part-never {k} q = absurd (never-stops (part .read (drop at s)) k t (part-stops s at f q))
 
   module _ {i j : BoundSpan} {c : Bool} {m next : ℕ} (q : r ≡ PartAt i j c m next) where
-    opened : part .read (drop at s) ≡ andThen (readMany (table .read) m (drop next s)) (λ ts z. got (partOf (rangeIn s i j, ((c, m), ts))) z)
-    opened = part-is (drop at s) ∙ rw (← (f .meaning), q)
-
     pub start-inside : BoundInside s i
     start-inside = (rw q at (f .inside)) .0
 
@@ -201,10 +194,10 @@ module _ (s : List ℕ) (at : ℕ) (t : T (isGot (part .read (drop at s)))) {r :
     end-inside = (rw q at (f .inside)) .1 .0
 
     pub outputs-from : next ≤ length s
-    outputs-from = (rw q at (f .inside)) .1 .1
+    outputs-from = outputs-place s at f q
 
     pub outputs-there : T (isGot (readMany (table .read) m (drop next s)))
-    outputs-there = outputs-of (rangeIn s i j) c m (readMany (table .read) m (drop next s)) (rw opened at t)
+    outputs-there = tables-there s at f q t
 
     pub part-passed :
         {w : LastWritten} {d : Durable}
@@ -213,10 +206,9 @@ module _ (s : List ℕ) (at : ℕ) (t : T (isGot (part .read (drop at s)))) {r :
         → PartPassed s (part .read (drop at s)) (record { durable = d; next = w .next })
     unfolding durable
     part-passed {w} {d} x y =
-        let ts = valuesOf (readMany (table .read) m (drop next s)) in
         record {
-          part = partOf (rangeIn s i j, ((c, m), ts));
-          is = opened ∙ ap (λ g. andThen g (λ ts z. got (partOf (rangeIn s i j, ((c, m), ts))) z)) (x .is);
+          part = partWith (rangeIn s i j) c m (valuesOf (readMany (table .read) m (drop next s)));
+          is = part-past s at f q (w .next) (x .is);
           past = x .past;
           durable = rw (x .last) at y;
         }

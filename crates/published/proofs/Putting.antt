@@ -2,8 +2,8 @@
 -- Assumes nothing.
 use Prim.Native.Nat.{ℕ, _+_, _≤_}
 use native.Mathlib.Omega.{arith}
-use mathlib.Core.Path.{_≡_, refl, sym, ap, _∙_}
-use mathlib.Core.List.{List, [], _++_, append-assoc, append-nil}
+use mathlib.Core.Path.{_≡_, sym, ap, _∙_}
+use mathlib.Core.List.{List, [], _++_, append-nil}
 use lib.ListN.{length, drop, length-append}
 use lib.Dec.{T}
 use Rattle.base.specs.Splice.{splice, splice-none, splice-splice, length-splice}
@@ -13,15 +13,7 @@ use Rattle.incremental_progress.specs.Draws.{Ten, Entry, Drawn, used-up, got, s
 use Rattle.incremental_progress.proofs.FilledViews.{fill-append}
 use Rattle.drawn.specs.Supply.{viewBytes, isDrawn, viewsOf, PutPast}
 use Rattle.drawn.specs.declared.PutTo.{PutTo}
-use Rattle.drawn.proofs.Adding.{joinTo, bytes-append}
-
-join-none : (d : Drawn (List View)) → d ≡ joinTo [] d
-join-none used-up = refl
-join-none (got vs s) = refl
-
-join-join : (seen more : List View) (d : Drawn (List View)) → joinTo seen (joinTo more d) ≡ joinTo (seen ++ more) d
-join-join seen more used-up = refl
-join-join seen more (got vs s) = ap (λ l. got l s) (sym (append-assoc seen more vs))
+use Rattle.drawn.proofs.Adding.{joinTo, join-none, join-join, bytes-append}
 
 -- a lot that is to be filled, with others after it, if they are all drawn
 record Lot (seen : List View) (d e : Drawn (List View)) : Type 0 where

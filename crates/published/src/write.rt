@@ -50,20 +50,9 @@ fn put_inside(
         Draw::UsedUp => PutTo { to, next: from },
         Draw::At(p) => {
             let next = p + 10;
-            let past = drawn::put_cut(
-                s,
-                t.id,
-                at,
-                o.past,
-                ids,
-                p,
-                ka,
-                format::key_of(s, a),
-                kb,
-                format::key_of(s, b),
-                out,
-                to,
-            );
+            let x = format::key_of(s, a);
+            let y = format::key_of(s, b);
+            let past = drawn::put_cut(s, t.id, at, o.past, ids, p, ka, x, kb, y, out, to);
             PutTo { to: past, next }
         }
     }

@@ -4,7 +4,7 @@ use Prim.Native.Nat.{ℕ, _+_, _≤_}
 use native.Mathlib.Omega.{arith}
 use mathlib.Core.Path.{_≡_, refl, sym, ap, _∙_}
 use mathlib.Core.Bool.{true}
-use mathlib.Core.List.{List, _++_, flatMap, flatten}
+use mathlib.Core.List.{List, _++_, flatMap}
 use lib.ListN.{length, drop}
 use lib.Dec.{T}
 use Rattle.base.specs.Bytes.{Bytes}
@@ -14,7 +14,7 @@ use Rattle.format.specs.Number.{writeNumber}
 use Rattle.format.proofs.Layouts.{number-length}
 use Rattle.records.specs.Form.{readMany}
 use Rattle.records.specs.Found.{isGot, valuesOf}
-use Rattle.records.specs.Values.{View, Run, Image, Part}
+use Rattle.records.specs.Values.{Run, Image}
 use Rattle.records.specs.Layouts.{run, image, job, upTo}
 use Rattle.records.specs.Spans.{jobHead, JobFound, CountFound}
 use Rattle.records.specs.declared.parts.JobRead.{JobRead}
@@ -26,10 +26,9 @@ use Rattle.records.proofs.HeadExits.{image-is}
 use Rattle.records.proofs.PartExits.{job-is}
 use Rattle.manifest.proofs.ImageExits.{first-place}
 use Rattle.incremental_progress.specs.Parts.{intervals}
-use Rattle.incremental_progress.specs.Draws.{Ten, Drawn, used-up, next, supply, fillAll, partEntries}
+use Rattle.incremental_progress.specs.Draws.{Drawn, used-up, next, supply, fillAll, partEntries}
 use Rattle.incremental_progress.specs.Draws as draws
-use Rattle.incremental_progress.specs.Gaps.{gaps, fillParts, gapRuns, gapCommit}
-use Rattle.incremental_progress.proofs.FilledViews.{fill-parts}
+use Rattle.incremental_progress.specs.Gaps.{gaps, gapRuns, gapCommit}
 use Rattle.drawn.specs.Supply.{SizedFound, isDrawn}
 use Rattle.drawn.specs.declared.Sized.{Sized}
 use Rattle.drawn.specs.declared.Sized.the-variants.{At as SizedAt, UsedUp as SizedUsedUp}
@@ -37,11 +36,11 @@ use Rattle.progress.specs.Spans.{jobIn}
 use Rattle.progress.specs.Tables.{gapsIn}
 use Rattle.pieces.specs.Held.{Inputs}
 use Rattle.published.specs.Most.{Most}
-use Rattle.measured.specs.Measured.{runsFit, ImageSizedFound, outsOf, outsAt}
+use Rattle.measured.specs.Measured.{runsFit, ImageSizedFound, outsAt}
 use Rattle.measured.specs.declared.ImageSized.the-variants.{UsedUp}
 use Rattle.measured.specs.declared.JobSized.{JobSized}
-use Rattle.measured.proofs.Lengths.{image-length, filled}
-use Rattle.measured.proofs.ImageExits.{image-used, image-ids, image-ready}
+use Rattle.measured.proofs.Lengths.{image-length}
+use Rattle.measured.proofs.ImageExits.{image-used, outs-filled, image-ids, image-ready}
 use Rattle.put_runs.specs.Runs.{imageOf, runsBytes, runsMade, imageMade, RunsReady, ImageReady}
 use Rattle.put_runs.proofs.LoopExits.{drawn-runs, runs-count}
 
@@ -127,26 +126,14 @@ not-used : (d : Drawn Image) → T (isDrawn d) → ImageSizedFound d UsedUp → 
 not-used used-up w f = w
 not-used (draws.got i s) w f = absurd (let e = f .meaning in let z : _≡_ {A = ℕ} 0 1 = cc in omega arith)
 
-outs-are : (d : Drawn (List (List View))) (vs : List View) (t : List Ten) → next d (λ outs s. draws.got (flatten outs) s) ≡ draws.got vs t → d ≡ draws.got (outsOf d) t
-outs-are used-up vs t e = absurd (let z : _≡_ {A = ℕ} 0 1 = cc in omega arith)
-outs-are (draws.got outs s) vs t e = let b : s ≡ t = cc in rw b
-
 module _ (task ids : List ℕ) {w : Sized} (x : SizedFound ids (fillAll (flatMap partEntries (jobIn (job .read task) .parts)) (supply ids)) w) where
-  abbrev ps : List Part
-  ps = jobIn (job .read task) .parts
-
   pub image-none : (i : Image) (a b : List ℕ) → T (isDrawn (gapCommit (jobIn (job .read task)) i (supply ids))) → w ≡ SizedUsedUp → a ≡ b
   image-none i a b d e = absurd (not-used (gapCommit (jobIn (job .read task)) i (supply ids)) d (image-used task ids x i e))
 
   module _ {views bytes nx : ℕ} (e : w ≡ SizedAt views bytes nx) where
-    outs-is : fillParts ps (supply ids) ≡ draws.got (outsAt task ids) (supply (drop nx ids))
-    outs-is =
-        let these = filled ids (fillAll (flatMap partEntries ps) (supply ids)) (rw e at x) in
-        outs-are (fillParts ps (supply ids)) (these .all-views) (supply (drop nx ids)) (sym (fill-parts ps (supply ids)) ∙ these .is)
-
     commit-is : (i : Image) → gapCommit (jobIn (job .read task)) i (supply ids) ≡ gapRuns (jobIn (job .read task)) (outsAt task ids) i (supply (drop nx ids))
     unfolding gapCommit
-    commit-is i = ap (λ d. next d (λ outs s. gapRuns (jobIn (job .read task)) outs i s)) outs-is
+    commit-is i = ap (λ d. next d (λ outs s. gapRuns (jobIn (job .read task)) outs i s)) (outs-filled task ids x e)
 
     module _ (given : List ℕ) where
       made-is : gapCommit (jobIn (job .read task)) (valuesOf (image .read given)) (supply ids) ≡ imageMade given task ids nx
@@ -175,7 +162,7 @@ module _ (task ids : List ℕ) {w : Sized} (x : SizedFound ids (fillAll (flatMap
           → ImageReady given task gap-table m ids (record { destination = d; sources = c; from = from; views = views; bytes = bytes }) nx out
       image-all gap-table m out i t k b g dr fit room f q o =
           record {
-            commit = record { ready = image-ready task ids x e given gap-table m k i g f q o; bytes = b; read = k; outs-drawn = rw outs-is tt };
+            commit = record { ready = image-ready task ids x e given gap-table m k i g f q o; bytes = b; read = k; outs-drawn = rw (outs-filled task ids x e) tt };
             there = t;
             within = image-ids task ids x e;
             drawn = rw made-is at dr;

@@ -1,12 +1,11 @@
 -- What the loop over runs keeps: the bytes of the new runs so far are in out, and those of the runs that are left follow them.
 -- Assumes nothing.
-use Prim.Native.Nat.{ℕ, suc, _+_, _-_, _≤_, _<_}
+use Prim.Native.Nat.{ℕ, suc, _+_, _≤_, _<_}
 use native.Mathlib.Omega.{arith}
 use mathlib.Core.Path.{_≡_, refl, sym, ap, _∙_}
 use mathlib.Core.Bool.{Bool, true, false, _&&_}
 use mathlib.Core.List.{List, [], _∷_, _++_, append-assoc, append-nil}
 use lib.ListN.{length, drop, length-append, drop-of-length-le}
-use lib.Seq.{drop-drop, drop-at}
 use lib.Dec.{T, leb}
 use borrow.Author.Tests.{leb-true}
 use Rattle.base.specs.Splice.{splice, splice-none, length-splice, splice-splice}
@@ -28,6 +27,7 @@ use Rattle.drawn.specs.Supply.{viewsOf, isDrawn}
 use Rattle.progress.specs.Spans.{jobIn}
 use Rattle.measured.specs.Measured.{runsFit, outsAt}
 use Rattle.measured.specs.declared.JobSized.{JobSized}
+use Rattle.measured.proofs.Loop.{left-here}
 use Rattle.put_runs.specs.Runs.{imageOf, runsBytes, newRun, runViews, runsMade, CommitReady, RunReady, RunsReady, RunPut}
 use Rattle.put_runs.specs.declared.RunDone.{RunDone}
 
@@ -82,13 +82,6 @@ first-bytes r rs = refl
 none-bytes : runsBytes [] ≡ []
 unfolding writeMany
 none-bytes = refl
-
--- ---- what is left
-left-here : {A : Type 0} (l seen tail : List A) (a : A) (k : ℕ) → length seen ≡ k → l ≡ seen ++ (a ∷ tail) → drop k l ≡ a ∷ drop (k + 1) l
-left-here l seen tail a k n e =
-    let here : drop k l ≡ a ∷ tail = ap (drop k) e ∙ drop-at seen (a ∷ tail) k n in
-    let then : drop (k + 1) l ≡ tail = sym (drop-drop 1 k l) ∙ ap (drop 1) here in
-    here ∙ rw then
 
 pub drawn-runs : (d : Drawn (List Run)) → T (isDrawn d) → (t : List Ten) × (d ≡ draws.got (imageOf d) t)
 drawn-runs used-up h = absurd h

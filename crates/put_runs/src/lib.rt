@@ -270,22 +270,14 @@ pub fn put_image<'a>(
                 return;
             }
             Sized::At { views, bytes, next } => {
-                put_rest(
-                    given,
-                    task,
-                    table,
-                    m,
-                    ids,
-                    next,
-                    JobSized {
-                        destination,
-                        sources,
-                        from,
-                        views,
-                        bytes,
-                    },
-                    out,
-                );
+                let h = JobSized {
+                    destination,
+                    sources,
+                    from,
+                    views,
+                    bytes,
+                };
+                put_rest(given, task, table, m, ids, next, h, out);
             }
         },
     }

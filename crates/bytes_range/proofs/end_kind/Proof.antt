@@ -8,9 +8,6 @@ use Rattle.bytes_range.proofs.end_kind.Tie as tie
 enum-told : tie.Need-enum-told
 enum-told c = search (needs, end-exits)
 
-kept-requires : tie.Need-kept-requires
-kept-requires c κs = search (needs, end-exits)
-
 returns : tie.Need-returns
 returns c = search (needs, end-exits)
 
@@ -31,13 +28,4 @@ returns-4 c = search (needs, end-exits)
 
 pub end-kind-spec : {M : Type 1} → statement M
 end-kind-spec =
-    tie.close
-    (tie.spec
-    enum-told
-    kept-requires
-    returns
-    enum-told-2
-    enum-told-3
-    returns-2
-    returns-3
-    returns-4)
+    tie.close (tie.spec enum-told returns enum-told-2 enum-told-3 returns-2 returns-3 returns-4)

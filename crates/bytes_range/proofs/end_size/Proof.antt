@@ -8,9 +8,6 @@ use Rattle.bytes_range.proofs.end_size.Tie as tie
 enum-told : tie.Need-enum-told
 enum-told c = search (needs, end-exits, fit-exits)
 
-kept-requires : tie.Need-kept-requires
-kept-requires c κs = search (needs, end-exits, fit-exits)
-
 returns : tie.Need-returns
 returns c = search (needs, end-exits, fit-exits)
 
@@ -49,7 +46,6 @@ end-size-spec =
     tie.close
     (tie.spec
     enum-told
-    kept-requires
     returns
     add-result
     enum-told-2

@@ -6,6 +6,9 @@ use borrow.Author.Needs.{needs}
 use Rattle.bytes_range.proofs.from_prefix_and_subrange.Statement.{statement}
 use Rattle.bytes_range.proofs.from_prefix_and_subrange.Tie as tie
 
+kept-for-requires : tie.Need-kept-for-requires
+kept-for-requires c κs = search (needs, range-puts, written-exits)
+
 start-size-requires : tie.Need-start-size-requires
 start-size-requires c κs = search (needs, range-puts, written-exits)
 
@@ -22,7 +25,7 @@ returns : tie.Need-returns
 returns c = search (needs, range-puts, written-exits)
 
 write-range-requires : tie.Need-write-range-requires
-write-range-requires c κs = search (needs, range-puts, written-exits)
+write-range-requires c κs = (search needs, (search needs, (search needs, (search needs, search (needs, range-puts)))))
 
 same-length : tie.Need-same-length
 same-length c = search (needs, range-puts, written-exits)
@@ -34,6 +37,7 @@ pub from-prefix-and-subrange-spec : {M : Type 1} → statement M
 from-prefix-and-subrange-spec =
     tie.close
     (tie.spec
+    kept-for-requires
     start-size-requires
     add-size
     end-size-requires

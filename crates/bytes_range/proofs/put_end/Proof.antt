@@ -9,9 +9,6 @@ use Rattle.bytes_range.proofs.put_end.Tie as tie
 enum-told : tie.Need-enum-told
 enum-told c = search (needs, put-exits, fit-exits)
 
-kept-requires : tie.Need-kept-requires
-kept-requires c κs = search (needs, put-exits, fit-exits)
-
 returns : tie.Need-returns
 returns c = search (needs, put-exits, fit-exits)
 
@@ -53,7 +50,6 @@ put-end-spec =
     tie.close
     (tie.spec
     enum-told
-    kept-requires
     returns
     put-next-requires
     enum-told-2

@@ -1,64 +1,74 @@
 -- `key::cmp` meets its contract, by what its loop over eight bytes a turn keeps.
 -- Assumes nothing.
-use Rattle.key.proofs.Words.{Agrees, kept}
+use Rattle.key.proofs.Words.{kept}
 use Prim.Native.Nat.{_-_}
+use Rattle.key.specs.Word.{Agree}
 use borrow.Author.Needs.{needs}
 use Rattle.key.proofs.cmp.Statement.{statement}
 use Rattle.key.proofs.cmp.Tie as tie
 
 abbrev Inv-loop : tie.InvT-loop
-Inv-loop a b n i₀ i = Agrees a b i
+Inv-loop a b n i₀ i = Agree a b i
 
 abbrev μ-loop : tie.MeasureT-loop
 μ-loop a b n i₀ i = n - i
 
 shorter-requires : tie.Need-shorter-requires Inv-loop μ-loop
-shorter-requires c κs = search needs
+shorter-requires c κs = search (needs, kept)
 
 cmp-bytes-requires : tie.Need-cmp-bytes-requires Inv-loop μ-loop
-cmp-bytes-requires c κs = search needs
+cmp-bytes-requires c κs = search (needs, kept)
 
 returns : tie.Need-returns Inv-loop μ-loop
-returns c = search needs
+returns c = search (needs, kept)
+
+agreed-requires : tie.Need-agreed-requires Inv-loop μ-loop
+agreed-requires c κs = search (needs, kept)
 
 loop-holds : tie.Need-loop-holds Inv-loop μ-loop
 loop-holds c = search (needs, kept)
 
+reversed-requires : tie.Need-reversed-requires Inv-loop μ-loop
+reversed-requires c κs = search (needs, kept)
+
+reversed-requires-2 : tie.Need-reversed-requires-2 Inv-loop μ-loop
+reversed-requires-2 c κs = search (needs, kept)
+
 word-requires : tie.Need-word-requires Inv-loop μ-loop
-word-requires c κs = search needs
+word-requires c κs = search (needs, kept)
 
 word-requires-2 : tie.Need-word-requires-2 Inv-loop μ-loop
-word-requires-2 c κs = search needs
+word-requires-2 c κs = search (needs, kept)
 
 cmp-number-requires : tie.Need-cmp-number-requires Inv-loop μ-loop
-cmp-number-requires c κs = search needs
+cmp-number-requires c κs = search (needs, kept)
 
 returns-2 : tie.Need-returns-2 Inv-loop μ-loop
 returns-2 c = search (needs, kept)
 
 add-i : tie.Need-add-i Inv-loop μ-loop
-add-i c = search needs
+add-i c = search (needs, kept)
 
 loop-less : tie.Need-loop-less Inv-loop μ-loop
-loop-less c = search needs
+loop-less c = search (needs, kept)
 
 loop-again : tie.Need-loop-again Inv-loop μ-loop
 loop-again c = search (needs, kept)
 
 word-requires-3 : tie.Need-word-requires-3 Inv-loop μ-loop
-word-requires-3 c κs = search needs
+word-requires-3 c κs = search (needs, kept)
 
 word-requires-4 : tie.Need-word-requires-4 Inv-loop μ-loop
-word-requires-4 c κs = search needs
+word-requires-4 c κs = search (needs, kept)
 
 cmp-number-requires-2 : tie.Need-cmp-number-requires-2 Inv-loop μ-loop
-cmp-number-requires-2 c κs = search needs
+cmp-number-requires-2 c κs = search (needs, kept)
 
 returns-3 : tie.Need-returns-3 Inv-loop μ-loop
 returns-3 c = search (needs, kept)
 
 cmp-number-requires-3 : tie.Need-cmp-number-requires-3 Inv-loop μ-loop
-cmp-number-requires-3 c κs = search needs
+cmp-number-requires-3 c κs = search (needs, kept)
 
 returns-4 : tie.Need-returns-4 Inv-loop μ-loop
 returns-4 c = search (needs, kept)
@@ -72,7 +82,10 @@ cmp-spec =
     shorter-requires
     cmp-bytes-requires
     returns
+    agreed-requires
     loop-holds
+    reversed-requires
+    reversed-requires-2
     word-requires
     word-requires-2
     cmp-number-requires

@@ -1,15 +1,10 @@
 -- `measured::runs_sized` meets its contract.
 -- Assumes nothing.
-use Rattle.measured.proofs.Loop.{RunsSizing, runs-exits, runs-ready, runs-ids, runs-place, runs-views, runs-there}
+use Rattle.measured.proofs.Loop.{RunsSizing, runs-exits, runs-ready, runs-at, runs-ids, runs-there}
 use Prim.Native.Nat.{_-_}
 use borrow.Author.Needs.{needs}
 use Rattle.measured.proofs.runs_sized.Statement.{statement}
 use Rattle.measured.proofs.runs_sized.Tie as tie
-use Rattle.measured.proofs.runs_sized.Reads as reads
-use Rattle.measured.proofs.runs_sized.Lts as lts
-use Rattle.measured.proofs.run_sized.Reads as run-sized-reads
-use Rattle.measured.proofs.still_fits.Reads as still-fits-reads
-use Rattle.records.proofs.run_at.Reads as run-at-reads
 
 abbrev Inv-loop : tie.InvT-loop
 Inv-loop given first n task table m ids from h seen₀ at₀ next₀ bytes₀ fits₀ seen at next bytes fits = RunsSizing given first n task table m ids from h seen at next bytes fits
@@ -20,29 +15,17 @@ abbrev μ-loop : tie.MeasureT-loop
 loop-holds : tie.Need-loop-holds Inv-loop μ-loop
 loop-holds c = search (needs, runs-exits)
 
-run-at-requires : tie.Need-run-at-requires Inv-loop μ-loop
-run-at-requires c κs = search (needs, runs-exits)
+run-sized-at-requires : tie.Need-run-sized-at-requires Inv-loop μ-loop
+run-sized-at-requires c κs = (search (needs, runs-ready), (search (needs, runs-at), (search (needs, runs-there), search (needs, runs-ids))))
+
+enum-known-views : tie.Need-enum-known-views Inv-loop μ-loop
+enum-known-views c = search (needs, runs-exits)
 
 enum-told : tie.Need-enum-told Inv-loop μ-loop
 enum-told c = search (needs, runs-exits)
 
 returns : tie.Need-returns Inv-loop μ-loop
 returns c = search (needs, runs-exits)
-
-enum-known-id : tie.Need-enum-known-id Inv-loop μ-loop
-enum-known-id c = search (needs, runs-exits)
-
-run-sized-requires : tie.Need-run-sized-requires Inv-loop μ-loop
-run-sized-requires c κs = (search (needs, runs-ready), (search (needs, runs-place), (search (needs, runs-views), (search (needs, runs-there), search (needs, runs-ids)))))
-
-enum-told-2 : tie.Need-enum-told-2 Inv-loop μ-loop
-enum-told-2 c = search (needs, runs-exits)
-
-returns-2 : tie.Need-returns-2 Inv-loop μ-loop
-returns-2 c = search (needs, runs-exits)
-
-enum-known-views : tie.Need-enum-known-views Inv-loop μ-loop
-enum-known-views c = search (needs, runs-exits)
 
 add-bytes : tie.Need-add-bytes Inv-loop μ-loop
 add-bytes c = search (needs, runs-exits)
@@ -62,8 +45,8 @@ loop-less c = search (needs, runs-exits)
 loop-again : tie.Need-loop-again Inv-loop μ-loop
 loop-again c = search (needs, runs-exits)
 
-returns-3 : tie.Need-returns-3 Inv-loop μ-loop
-returns-3 c = search (needs, runs-exits)
+returns-2 : tie.Need-returns-2 Inv-loop μ-loop
+returns-2 c = search (needs, runs-exits)
 
 pub runs-sized-spec : {M : Type 1} → statement M
 runs-sized-spec =
@@ -72,18 +55,14 @@ runs-sized-spec =
     Inv-loop
     μ-loop
     loop-holds
-    run-at-requires
+    run-sized-at-requires
+    enum-known-views
     enum-told
     returns
-    enum-known-id
-    run-sized-requires
-    enum-told-2
-    returns-2
-    enum-known-views
     add-bytes
     add-bytes-2
     still-fits-requires
     add-seen
     loop-less
     loop-again
-    returns-3)
+    returns-2)

@@ -11,10 +11,10 @@ use Rattle.new_image.proofs.destination.put_interval.Reads as put-inter
 use Rattle.new_image.proofs.select.put_selected.Reads as put-selected-reads
 
 abbrev Inv-loop : tie.InvT-loop
-Inv-loop image job table m ids entries count from n out₀ first seen₀ at₀ g₀ next₀ to₀ out seen at g next to = Parting image job table m ids entries count from n out₀ first out seen at g next to
+Inv-loop image job table m ids rows count from n out₀ first seen₀ at₀ g₀ next₀ to₀ out seen at g next to = Parting image job table m ids rows count from n out₀ first out seen at g next to
 
 abbrev μ-loop : tie.MeasureT-loop
-μ-loop image job table m ids entries count from n out₀ first seen₀ at₀ g₀ next₀ to₀ out seen at g next to = n - seen
+μ-loop image job table m ids rows count from n out₀ first seen₀ at₀ g₀ next₀ to₀ out seen at g next to = n - seen
 
 loop-holds : tie.Need-loop-holds Inv-loop μ-loop
 loop-holds c = search (needs, parting-exits)

@@ -3,16 +3,16 @@
 use Rattle.output_views.proofs.OutputExits.{outputs-exits, OutputsSeen}
 use Prim.Native.Nat.{_-_}
 use lib.ListN.{take}
-use Rattle.output_views.specs.Ids.{idsAt}
+use Rattle.output_views.specs.Ids.{idsOf}
 use borrow.Author.Needs.{needs}
 use Rattle.output_views.proofs.ids.outputs_kept.Statement.{statement}
 use Rattle.output_views.proofs.ids.outputs_kept.Tie as tie
 
 abbrev Inv-loop : tie.InvT-loop
-Inv-loop s from m given places tails k seen₀ at₀ seen at = OutputsSeen s from m (idsAt given (take k places)) seen at
+Inv-loop s from m heads tails marks k seen₀ at₀ seen at = OutputsSeen s from m (idsOf (take k heads) (take k tails)) seen at
 
 abbrev μ-loop : tie.MeasureT-loop
-μ-loop s from m given places tails k seen₀ at₀ seen at = m - seen
+μ-loop s from m heads tails marks k seen₀ at₀ seen at = m - seen
 
 loop-holds : tie.Need-loop-holds Inv-loop μ-loop
 loop-holds c = search (needs, outputs-exits)

@@ -7,10 +7,10 @@ use Rattle.output_views.proofs.runs.output_left.Statement.{statement}
 use Rattle.output_views.proofs.runs.output_left.Tie as tie
 
 abbrev Inv-loop : tie.InvT-loop
-Inv-loop given from m s gaps n places₀ tails₀ k₀ seen₀ at₀ places tails k seen at = ViewsLeft given from m s n gaps places tails k seen at
+Inv-loop given from m s gaps n heads₀ tails₀ marks₀ k₀ seen₀ at₀ heads tails marks k seen at = ViewsLeft given from m s n gaps heads tails marks k seen at
 
 abbrev μ-loop : tie.MeasureT-loop
-μ-loop given from m s gaps n places₀ tails₀ k₀ seen₀ at₀ places tails k seen at = m - seen
+μ-loop given from m s gaps n heads₀ tails₀ marks₀ k₀ seen₀ at₀ heads tails marks k seen at = m - seen
 
 loop-holds : tie.Need-loop-holds Inv-loop μ-loop
 loop-holds c = search (needs, left-exits)
@@ -31,25 +31,19 @@ effective-requires : tie.Need-effective-requires Inv-loop μ-loop
 effective-requires c κs = search (needs, left-exits)
 
 has-piece-requires : tie.Need-has-piece-requires Inv-loop μ-loop
-has-piece-requires c κs = (search (needs, left-exits), (search (needs, left-exits), search (needs, left-exits)))
+has-piece-requires c κs = search (needs, left-exits)
 
-mul-places : tie.Need-mul-places Inv-loop μ-loop
-mul-places c = search (needs, left-exits)
+slice-aggregate-keep : tie.Need-slice-aggregate-keep Inv-loop μ-loop
+slice-aggregate-keep c = search (needs, left-exits)
 
-array-write-places : tie.Need-array-write-places Inv-loop μ-loop
-array-write-places c = search (needs, left-exits)
+slice-aggregate-keep-2 : tie.Need-slice-aggregate-keep-2 Inv-loop μ-loop
+slice-aggregate-keep-2 c = search (needs, left-exits)
 
-add-number-here : tie.Need-add-number-here Inv-loop μ-loop
-add-number-here c = search (needs, left-exits)
+slice-aggregate-keep-3 : tie.Need-slice-aggregate-keep-3 Inv-loop μ-loop
+slice-aggregate-keep-3 c = search (needs, left-exits)
 
-number-here-requires : tie.Need-number-here-requires Inv-loop μ-loop
-number-here-requires c κs = search (needs, left-exits)
-
-mul-tails : tie.Need-mul-tails Inv-loop μ-loop
-mul-tails c = search (needs, left-exits)
-
-array-write-tails : tie.Need-array-write-tails Inv-loop μ-loop
-array-write-tails c = search (needs, left-exits)
+keep-requires : tie.Need-keep-requires Inv-loop μ-loop
+keep-requires c κs = (search (needs, left-exits), (search (needs, left-exits), (search (needs, left-exits), search (needs, left-exits))))
 
 add-k : tie.Need-add-k Inv-loop μ-loop
 add-k c = search (needs, left-exits)
@@ -78,6 +72,9 @@ slice-aggregate-job-kept c = search (needs, left-exits)
 slice-aggregate-job-kept-2 : tie.Need-slice-aggregate-job-kept-2 Inv-loop μ-loop
 slice-aggregate-job-kept-2 c = search (needs, left-exits)
 
+slice-aggregate-job-kept-3 : tie.Need-slice-aggregate-job-kept-3 Inv-loop μ-loop
+slice-aggregate-job-kept-3 c = search (needs, left-exits)
+
 job-kept-requires : tie.Need-job-kept-requires Inv-loop μ-loop
 job-kept-requires c κs = search (needs, left-exits)
 
@@ -97,12 +94,10 @@ output-left-spec =
     enum-known-v
     effective-requires
     has-piece-requires
-    mul-places
-    array-write-places
-    add-number-here
-    number-here-requires
-    mul-tails
-    array-write-tails
+    slice-aggregate-keep
+    slice-aggregate-keep-2
+    slice-aggregate-keep-3
+    keep-requires
     add-k
     add-seen
     loop-less
@@ -112,5 +107,6 @@ output-left-spec =
     loop-again-2
     slice-aggregate-job-kept
     slice-aggregate-job-kept-2
+    slice-aggregate-job-kept-3
     job-kept-requires
     returns-2)

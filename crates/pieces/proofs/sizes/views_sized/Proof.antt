@@ -11,10 +11,10 @@ use Rattle.pieces.proofs.held.view_held.Reads as view-held-reads
 use Rattle.pieces.proofs.sizes.view_sized.Reads as view-sized-reads
 
 abbrev Inv-loop : tie.InvT-loop
-Inv-loop image first n job table m ids from seen₀ at₀ views₀ bytes₀ next₀ seen at views bytes next = RunSizing image first n job table m ids from seen at views bytes next
+Inv-loop image first n job table m ids from seen₀ at₀ some₀ long₀ then₀ seen at some long then = RunSizing image first n job table m ids from seen at some long then
 
 abbrev μ-loop : tie.MeasureT-loop
-μ-loop image first n job table m ids from seen₀ at₀ views₀ bytes₀ next₀ seen at views bytes next = n - seen
+μ-loop image first n job table m ids from seen₀ at₀ some₀ long₀ then₀ seen at some long then = n - seen
 
 loop-holds : tie.Need-loop-holds Inv-loop μ-loop
 loop-holds c = search (needs, run-sizing-exits)
@@ -25,20 +25,20 @@ view-held-requires c κs = search (needs, run-sizing-exits)
 view-sized-requires : tie.Need-view-sized-requires Inv-loop μ-loop
 view-sized-requires c κs = search (needs, run-sizing-exits)
 
+enum-known-views : tie.Need-enum-known-views Inv-loop μ-loop
+enum-known-views c = search (needs, run-sizing-exits)
+
 enum-told : tie.Need-enum-told Inv-loop μ-loop
 enum-told c = search (needs, run-sizing-exits)
 
 returns : tie.Need-returns Inv-loop μ-loop
 returns c = search (needs, run-sizing-exits)
 
-enum-known-more : tie.Need-enum-known-more Inv-loop μ-loop
-enum-known-more c = search (needs, run-sizing-exits)
+add-some : tie.Need-add-some Inv-loop μ-loop
+add-some c = search (needs, run-sizing-exits)
 
-add-views : tie.Need-add-views Inv-loop μ-loop
-add-views c = search (needs, run-sizing-exits)
-
-add-bytes : tie.Need-add-bytes Inv-loop μ-loop
-add-bytes c = search (needs, run-sizing-bytes-fit)
+add-long : tie.Need-add-long Inv-loop μ-loop
+add-long c = search (needs, run-sizing-bytes-fit)
 
 add-seen : tie.Need-add-seen Inv-loop μ-loop
 add-seen c = search (needs, run-sizing-exits)
@@ -61,11 +61,11 @@ views-sized-spec =
     loop-holds
     view-held-requires
     view-sized-requires
+    enum-known-views
     enum-told
     returns
-    enum-known-more
-    add-views
-    add-bytes
+    add-some
+    add-long
     add-seen
     loop-less
     loop-again

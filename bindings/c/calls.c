@@ -1,0 +1,181 @@
+/* Each call of bilqarush.h, answered and refused. Prints each check that fails; the status is 0 if none does. */
+#include "bilqarush.h"
+
+#include <stdio.h>
+#include <string.h>
+
+#define UNWRITTEN 0xA5
+#define ROOM 256
+
+static int failures = 0;
+static uint8_t out[ROOM];
+static size_t written;
+
+#define CHECK(holds)                                                    \
+    do {                                                                \
+        if (!(holds)) {                                                 \
+            failures++;                                                 \
+            printf("%s:%d: %s does not hold\n", __FILE__, __LINE__, #holds); \
+        }                                                               \
+    } while (0)
+
+/* Bytes of a text, and how many. */
+#define BYTES(text) (const uint8_t *)(text), sizeof(text) - 1
+
+/* [a, m], (c, -, [a, a) and a range with padding set. */
+#define A_TO_M "\x50\0\x01" "a" "\0\x01" "m"
+#define AFTER_C "\x80\0\x01" "c"
+#define EMPTY "\x60\0\x01" "a" "\0\x01" "a"
+#define PADDED "\x01"
+
+/* Document 01's example: run 7 with table 1 (first a, last c) and table 2 (first d, no last). */
+#define ID(n) "\0\0\0\0\0\0\0\0\0\0\0\0\0\0\0" n
+#define SIZES "\0\0\0\0\0\0\0\0\0\0\0\0\0\0\0\0\0\0\0\0\0\0\0\0"
+#define TABLE_1 ID("\x01") SIZES "\x80\0\x01" "a" "\0\x01" "c"
+#define TABLE_2 ID("\x02") SIZES "\0\0\x01" "d"
+#define EXAMPLE "\x01\0\0\0\x07\0\x20" ID("\x01") TABLE_1 "\0" ID("\x02") TABLE_2 "\0"
+
+static void fill(void) {
+    memset(out, UNWRITTEN, ROOM);
+    written = 77;
+}
+
+static bool unwritten(size_t from) {
+    while (from < ROOM && out[from] == UNWRITTEN) {
+        from++;
+    }
+    return from == ROOM;
+}
+
+/* Whether a call answered some bytes and wrote no others. */
+static bool wrote(uint8_t stop, const uint8_t *bytes, size_t length) {
+    return stop == 0 && written == length && memcmp(out, bytes, length) == 0 && unwritten(length);
+}
+
+/* Whether a call stopped and left the buffer and the slot as they were. */
+static bool stopped(uint8_t stop, uint8_t expected) {
+    return stop == expected && written == 77 && unwritten(0);
+}
+
+static void keys_and_bounds(void) {
+    static const uint8_t long_key[BILQARUSH_MAX_KEY + 1];
+    int8_t order = 77;
+    CHECK(bilqarush_compare(BYTES("a"), BYTES("a\0"), &order) == 0 && order == -1);
+    CHECK(bilqarush_cmp_bound(BILQARUSH_INCLUDED, BYTES("a"), BILQARUSH_EXCLUDED, BYTES("a"), false, &order) == 0);
+    CHECK(order == 1);
+    CHECK(bilqarush_cmp_bound(BILQARUSH_UNBOUNDED, BYTES(""), BILQARUSH_UNBOUNDED, BYTES(""), true, &order) == 0);
+    CHECK(order == 0);
+    order = 77;
+    CHECK(bilqarush_cmp_bound(3, BYTES("a"), BILQARUSH_EXCLUDED, BYTES("a"), true, &order) == 2 && order == 77);
+    CHECK(bilqarush_compare(long_key, sizeof long_key, BYTES(""), &order) == 3 && order == 77);
+}
+
+static void tests_of_ranges(void) {
+    bool is = true;
+    CHECK(bilqarush_non_empty(BYTES(EMPTY), &is) == 0 && !is);
+    CHECK(bilqarush_contains(BYTES(A_TO_M), BYTES("m"), &is) == 0 && is);
+    CHECK(bilqarush_contains(BYTES(EMPTY), BYTES("a"), &is) == 4 && is);
+    CHECK(bilqarush_non_empty(BYTES(PADDED), &is) == 2 && is);
+}
+
+static void points(void) {
+    fill();
+    CHECK(wrote(bilqarush_as_point(BYTES("\x50\0\x01" "a" "\0\x01" "a"), out, ROOM, &written),
+                BYTES("\x01\0\0\0\0\0\0\0\x03\0\0\0\0\0\0\0\x01")));
+    fill();
+    CHECK(stopped(bilqarush_as_point(BYTES(EMPTY), out, ROOM, &written), 4));
+}
+
+static void joined_ranges(void) {
+    fill();
+    CHECK(wrote(bilqarush_intersect(BYTES(A_TO_M), BYTES(AFTER_C), out, BILQARUSH_JOINED_LEN, &written),
+                BYTES("\x01\x02\x02\0\0\0\0\0\0\0\x03\0\0\0\0\0\0\0\x01"
+                      "\x01\x01\0\0\0\0\0\0\0\x06\0\0\0\0\0\0\0\x01")));
+    fill();
+    CHECK(stopped(bilqarush_intersect(BYTES(A_TO_M), BYTES(AFTER_C), out, BILQARUSH_JOINED_LEN - 1, &written), 16));
+    CHECK(bilqarush_union(BYTES(A_TO_M), BYTES(AFTER_C), out, ROOM, &written) == 0 && written == BILQARUSH_JOINED_LEN);
+    CHECK(out[1] == BILQARUSH_INCLUDED && out[2] == BILQARUSH_FIRST && out[10] == 3);
+    CHECK(out[19] == BILQARUSH_UNBOUNDED && out[20] == BILQARUSH_SECOND && unwritten(37));
+    fill();
+    CHECK(stopped(bilqarush_union(BYTES(A_TO_M), BYTES(PADDED), out, ROOM, &written), 2));
+}
+
+static void keys_of_an_intersection(void) {
+    fill();
+    CHECK(wrote(bilqarush_intersect_start_key(BYTES(A_TO_M), BYTES(AFTER_C), out, ROOM, &written), BYTES("c")));
+    fill();
+    CHECK(wrote(bilqarush_intersect_end_key(BYTES(A_TO_M), BYTES(AFTER_C), out, ROOM, &written), BYTES("m")));
+    fill();
+    CHECK(wrote(bilqarush_intersect_end_key(BYTES(A_TO_M), BYTES(PADDED), out, ROOM, &written), BYTES("")));
+    fill();
+    CHECK(stopped(bilqarush_intersect_start_key(BYTES(A_TO_M), BYTES(AFTER_C), out, 0, &written), 16));
+}
+
+static void prefixes(void) {
+    fill();
+    CHECK(wrote(bilqarush_from_prefix(BYTES("a\xFF"), out, ROOM, &written), BYTES("\x60\0\x02" "a\xFF\0\x01" "b")));
+    fill();
+    CHECK(stopped(bilqarush_from_prefix(BYTES("a\xFF"), out, 7, &written), 16));
+    CHECK(wrote(bilqarush_from_prefix_and_subrange(BYTES("x"), BYTES(AFTER_C), out, ROOM, &written),
+                BYTES("\xA0\0\x02" "xc" "\0\x01" "y")));
+    fill();
+    CHECK(stopped(bilqarush_from_prefix_and_subrange(BYTES("x"), BYTES(EMPTY), out, ROOM, &written), 4));
+}
+
+static void images(void) {
+    CHECK(bilqarush_check_image(BYTES(EXAMPLE)) == 0);
+    CHECK(bilqarush_check_image(BYTES(EXAMPLE "\0")) == 1);
+    fill();
+    CHECK(wrote(bilqarush_compacted_effective_range(BYTES(EXAMPLE), 0, 0, out, BILQARUSH_VIEW_RANGE_LEN, &written),
+                BYTES("\x01\0\0\0\0\0\0\0\x42\0\0\0\0\0\0\0\x01" "\x01\0\0\0\0\0\0\0\x45\0\0\0\0\0\0\0\x01")));
+    fill();
+    CHECK(stopped(bilqarush_compacted_effective_range(BYTES(EXAMPLE), 0, 2, out, ROOM, &written), 9));
+    CHECK(wrote(bilqarush_list(BYTES(EXAMPLE), out, ROOM, &written),
+                BYTES("run view table start end\n"
+                      "7 0 00000000000000000000000000000001 [61 63]\n"
+                      "7 1 00000000000000000000000000000002 [64 -\n")));
+    fill();
+    CHECK(stopped(bilqarush_list(BYTES(EXAMPLE), out, 112, &written), 16));
+}
+
+/* From run 7 to itself; one part from b to c is unfinished, with an output that holds b alone, so nothing is durable. Then it
+ * is completed: a is left of table 1, and the output is shown. */
+#define JOB(flag) "\0\0\0\x07\x01\0\0\0\x07\x01" "\x60\0\x01" "b" "\0\x01" "c" flag "\x01" OUTPUT
+#define OUTPUT ID("\x03") SIZES "\x80\0\x01" "b" "\0\x01" "b"
+#define CUT(id, range) "\0\0\0\0\0\0" id TABLE_1 "\x80" range
+#define COMMITTED                                                                                                  \
+    "\x01\0\0\0\x07\0\x40" CUT("0123456789", "\x60\0\x01" "a" "\0\x01" "b") ID("\x03") OUTPUT "\0"                   \
+    CUT("abcdefghij", "\x50\0\x01" "c" "\0\x01" "c") ID("\x02") TABLE_2 "\0"
+
+static void commits(void) {
+    fill();
+    CHECK(wrote(bilqarush_commit(BYTES(EXAMPLE), BYTES(JOB("\0")), BYTES(""), out, ROOM, &written), BYTES(EXAMPLE)));
+    fill();
+    CHECK(stopped(bilqarush_commit(BYTES(EXAMPLE), BYTES(JOB("\x80")), BYTES("0123456789"), out, ROOM, &written), 14));
+    CHECK(stopped(bilqarush_commit(BYTES(EXAMPLE), BYTES(JOB("\x80")), BYTES("0123456789abcdefghij"), out, ROOM, &written),
+                  16));
+}
+
+static void a_commit_that_cuts(void) {
+    static uint8_t new_image[BILQARUSH_IMAGE_LEN];
+    CHECK(bilqarush_commit(BYTES(EXAMPLE), BYTES(JOB("\x80")), BYTES("0123456789abcdefghij"), new_image,
+                           sizeof new_image, &written) == 0);
+    CHECK(written == sizeof(COMMITTED) - 1 && memcmp(new_image, COMMITTED, written) == 0);
+    CHECK(bilqarush_check_image(new_image, written) == 0);
+}
+
+int main(void) {
+    keys_and_bounds();
+    tests_of_ranges();
+    points();
+    joined_ranges();
+    keys_of_an_intersection();
+    prefixes();
+    images();
+    commits();
+    a_commit_that_cuts();
+    if (failures == 0) {
+        printf("bindings/c/calls: each call answered as expected\n");
+    }
+    return failures == 0 ? 0 : 1;
+}

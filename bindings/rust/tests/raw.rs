@@ -1,0 +1,198 @@
+//! The C interface itself: slots and lent buffers that a stop leaves as they were, and answers byte by byte.
+mod common;
+
+use bilqarush::raw::*;
+use common::{example, excluded, included, range, UNWRITTEN};
+use std::ops::Bound::Unbounded;
+
+const SLOT: usize = 77;
+
+/// A call on a filled buffer of some room: what it returned, and the front that it wrote. After a stop the slot must be
+/// as it was, and the rest of the buffer always.
+fn told(room: usize, call: impl FnOnce(*mut u8, usize, *mut usize) -> u8) -> (u8, Vec<u8>) {
+    let mut out = vec![UNWRITTEN; room];
+    let mut written = SLOT;
+    let stop = call(out.as_mut_ptr(), room, &mut written);
+    if stop != 0 {
+        assert_eq!(written, SLOT);
+        written = 0;
+    }
+    assert!(out[written..].iter().all(|&byte| byte == UNWRITTEN));
+    out.truncate(written);
+    (stop, out)
+}
+
+fn cmp_bound(a_kind: u8, a: &[u8], b_kind: u8, b: &[u8]) -> (u8, i8) {
+    let mut order = 77;
+    // SAFETY: the slices are lent whole, and the slot is this function's own. So it is in each call below.
+    let stop = unsafe {
+        bilqarush_cmp_bound(
+            a_kind,
+            a.as_ptr(),
+            a.len(),
+            b_kind,
+            b.as_ptr(),
+            b.len(),
+            true,
+            &mut order,
+        )
+    };
+    (stop, order)
+}
+
+#[test]
+fn bounds_by_kind_and_key() {
+    assert_eq!(cmp_bound(1, b"a", 2, b"a"), (0, -1));
+    assert_eq!(cmp_bound(1, b"a", 0, b""), (0, 1));
+    assert_eq!(cmp_bound(3, b"a", 1, b"a"), (2, 77));
+    assert_eq!(cmp_bound(1, b"a", 255, b"a"), (2, 77));
+    assert_eq!(cmp_bound(0, b"a", 1, b"a"), (1, 77));
+    assert_eq!(cmp_bound(1, b"a", 0, &[0; 65_536]), (1, 77));
+    assert_eq!(cmp_bound(1, b"a", 0, &[0; 65_537]), (3, 77));
+    assert_eq!(cmp_bound(2, &[0; 1025], 3, b"a"), (3, 77));
+    assert_eq!(cmp_bound(3, &[0; 1025], 0, b"a"), (2, 77));
+}
+
+#[test]
+fn slots_of_numbers_stay_after_a_stop() {
+    let long = [0; 1025];
+    let mut order = 77;
+    let stop = unsafe { bilqarush_compare(long.as_ptr(), 1025, long.as_ptr(), 1, &mut order) };
+    assert_eq!((stop, order), (3, 77));
+    for before in [false, true] {
+        let mut is = before;
+        let stop = unsafe { bilqarush_non_empty([1].as_ptr(), 1, &mut is) };
+        assert_eq!((stop, is), (2, before));
+        let stop = unsafe { bilqarush_contains([1].as_ptr(), 1, long.as_ptr(), 1, &mut is) };
+        assert_eq!((stop, is), (2, before));
+    }
+}
+
+fn as_point(range: &[u8], room: usize) -> (u8, Vec<u8>) {
+    told(room, |to, room, written| unsafe {
+        bilqarush_as_point(range.as_ptr(), range.len(), to, room, written)
+    })
+}
+
+#[test]
+fn points_byte_by_byte() {
+    let point = range(included("abc"), included("abc"));
+    let answer = [1, 0, 0, 0, 0, 0, 0, 0, 3, 0, 0, 0, 0, 0, 0, 0, 3];
+    assert_eq!(answer.len(), BILQARUSH_POINT_LEN);
+    assert_eq!(as_point(&point, 20), (0, answer.to_vec()));
+    assert_eq!(as_point(&point, 17), (0, answer.to_vec()));
+    assert_eq!(as_point(&point, 16), (16, vec![]));
+    let no_point = range(Unbounded, Unbounded);
+    assert_eq!(as_point(&no_point, 1), (0, vec![0]));
+    assert_eq!(as_point(&no_point, 0), (16, vec![]));
+    assert_eq!(
+        as_point(&range(included("a"), excluded("a")), 0),
+        (4, vec![])
+    );
+}
+
+fn intersect(a: &[u8], b: &[u8], room: usize) -> (u8, Vec<u8>) {
+    told(room, |to, room, written| unsafe {
+        bilqarush_intersect(a.as_ptr(), a.len(), b.as_ptr(), b.len(), to, room, written)
+    })
+}
+
+fn union(a: &[u8], b: &[u8], room: usize) -> (u8, Vec<u8>) {
+    told(room, |to, room, written| unsafe {
+        bilqarush_union(a.as_ptr(), a.len(), b.as_ptr(), b.len(), to, room, written)
+    })
+}
+
+/// A place and a length.
+fn place(at: u64, length: u64) -> Vec<u8> {
+    [at.to_be_bytes(), length.to_be_bytes()].concat()
+}
+
+#[test]
+fn intersections_and_unions_byte_by_byte() {
+    let a = range(included("aa"), included("m"));
+    let b = range(excluded("c"), excluded("z"));
+    let both = [&[1, 2, 2][..], &place(3, 1), &[1, 1], &place(7, 1)].concat();
+    assert_eq!(both.len(), BILQARUSH_JOINED_LEN);
+    assert_eq!(intersect(&a, &b, 40), (0, both.clone()));
+    assert_eq!(intersect(&a, &b, 37), (0, both));
+    assert_eq!(intersect(&a, &b, 36), (16, vec![]));
+    let either = [&[1, 1, 1][..], &place(3, 2), &[2, 2], &place(6, 1)].concat();
+    assert_eq!(union(&a, &b, 37), (0, either));
+    assert_eq!(union(&a, &b, 36), (16, vec![]));
+}
+
+#[test]
+fn no_intersection_and_no_union() {
+    let a = range(included("a"), included("b"));
+    let apart = range(included("c"), included("d"));
+    for call in [intersect, union] {
+        assert_eq!(call(&a, &apart, 1), (0, vec![0]));
+        assert_eq!(call(&a, &apart, 0), (16, vec![]));
+        assert_eq!(call(&a, &[], 37), (1, vec![]));
+    }
+}
+
+#[test]
+fn an_unbounded_bound_has_length_0() {
+    let whole = range(Unbounded, Unbounded);
+    let (stop, answer) = intersect(&whole, &whole, 37);
+    assert_eq!((stop, answer.len()), (0, 37));
+    assert_eq!(answer[..3], [1, 0, 2]);
+    assert_eq!(answer[11..19], [0; 8]);
+    assert_eq!(answer[19..21], [0, 1]);
+    assert_eq!(answer[29..37], [0; 8]);
+}
+
+fn effective_range(image: &[u8], run: usize, view: usize, room: usize) -> (u8, Vec<u8>) {
+    told(room, |to, room, written| unsafe {
+        bilqarush_compacted_effective_range(
+            image.as_ptr(),
+            image.len(),
+            run,
+            view,
+            to,
+            room,
+            written,
+        )
+    })
+}
+
+#[test]
+fn effective_ranges_byte_by_byte() {
+    let image = example();
+    let answer = [&[1][..], &place(0x42, 1), &[1], &place(0x45, 1)].concat();
+    assert_eq!(answer.len(), BILQARUSH_VIEW_RANGE_LEN);
+    assert_eq!(effective_range(&image, 0, 0, 34), (0, answer.clone()));
+    assert_eq!(effective_range(&image, 0, 0, 99), (0, answer));
+    assert_eq!(effective_range(&image, 0, 0, 33), (16, vec![]));
+    assert_eq!(effective_range(&image, 0, 2, 0), (9, vec![]));
+    assert_eq!(effective_range(&[], 0, 0, 34), (1, vec![]));
+}
+
+#[test]
+fn what_is_read_stays() {
+    let image = example();
+    let (stop, listing) = told(200, |to, room, written| unsafe {
+        bilqarush_list(image.as_ptr(), image.len(), to, room, written)
+    });
+    assert_eq!((stop, listing.len()), (0, 113));
+    let job = common::job(7, &[7], &[]);
+    let ids = [];
+    let (stop, new) = told(200, |to, room, written| unsafe {
+        bilqarush_commit(
+            image.as_ptr(),
+            image.len(),
+            job.as_ptr(),
+            job.len(),
+            ids.as_ptr(),
+            ids.len(),
+            to,
+            room,
+            written,
+        )
+    });
+    assert_eq!((stop, new), (0, example()));
+    assert_eq!(image, example());
+    assert_eq!(job, common::job(7, &[7], &[]));
+}

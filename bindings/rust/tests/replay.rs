@@ -1,0 +1,260 @@
+//! The recorded answers that the programs replay_ranges, replay_images and replay_commits replay in Rattle, replayed
+//! through the C interface. oracle/README.md has the layouts of the records.
+mod common;
+
+use bilqarush::*;
+use common::lend;
+use std::fs;
+use std::ops::Bound;
+
+fn records(program: &str) -> Vec<u8> {
+    let root = concat!(env!("CARGO_MANIFEST_DIR"), "/../../crates");
+    let path = format!("{root}/{program}/stdin");
+    fs::read(&path).unwrap_or_else(|error| panic!("{path}: {error}"))
+}
+
+fn take<'a>(rest: &mut &'a [u8], count: usize) -> &'a [u8] {
+    let (taken, left) = rest.split_at(count);
+    *rest = left;
+    taken
+}
+
+fn number(rest: &mut &[u8], width: usize) -> usize {
+    take(rest, width)
+        .iter()
+        .fold(0, |sum, &byte| sum << 8 | usize::from(byte))
+}
+
+/// An outcome as it is recorded: the stop alone, or 0 and the answer.
+fn recorded<S: Into<u8>>(outcome: Result<Vec<u8>, S>) -> Vec<u8> {
+    match outcome {
+        Ok(answer) => [vec![0], answer].concat(),
+        Err(stop) => vec![stop.into()],
+    }
+}
+
+fn outcome<T>(result: Result<T, Stop>, bytes: impl FnOnce(T) -> Vec<u8>) -> Vec<u8> {
+    recorded(result.map(bytes).map_err(Stop::number))
+}
+
+// ---- ranges
+
+fn bound(kind: u8, key: &[u8]) -> Option<Bound<&[u8]>> {
+    match kind {
+        0 if key.is_empty() => Some(Bound::Unbounded),
+        1 => Some(Bound::Included(key)),
+        2 => Some(Bound::Excluded(key)),
+        _ => None,
+    }
+}
+
+fn order_number(order: i8) -> Vec<u8> {
+    vec![(order + 1) as u8]
+}
+
+/// By the raw call, since some records give what no `Bound` is; the safe one must agree on the others.
+fn cmp_bound_record(x: [u8; 3], a: &[u8], b: &[u8]) -> Vec<u8> {
+    let [a_kind, b_kind, start] = x;
+    let mut order = 0;
+    // SAFETY: the slices are lent whole, and the slot is this function's own.
+    let stop = unsafe {
+        let (a_len, b_len) = (a.len(), b.len());
+        let (a, b) = (a.as_ptr(), b.as_ptr());
+        raw::bilqarush_cmp_bound(a_kind, a, a_len, b_kind, b, b_len, start == 1, &mut order)
+    };
+    let made = match stop {
+        0 => recorded(Ok::<_, u8>(order_number(order))),
+        stop => vec![stop],
+    };
+    if let (Some(a), Some(b)) = (bound(a_kind, a), bound(b_kind, b)) {
+        let bounds = [Bounds::Ends, Bounds::Starts][usize::from(start)];
+        let order = cmp_bound(a, b, bounds);
+        assert_eq!(outcome(order, |order| order_number(order as i8)), made);
+    }
+    made
+}
+
+fn joined_record(joined: Option<Joined>) -> Vec<u8> {
+    let Some(joined) = joined else {
+        return vec![0];
+    };
+    let sides = [joined.start_from, joined.end_from].map(|side| match side {
+        Side::First => 1,
+        Side::Second => 2,
+    });
+    let range = range_image(joined.range.start, joined.range.end).unwrap();
+    [vec![1], sides.to_vec(), range].concat()
+}
+
+fn key_of(bound: Bound<&[u8]>) -> Vec<u8> {
+    match bound {
+        Bound::Unbounded => vec![],
+        Bound::Included(key) | Bound::Excluded(key) => key.to_vec(),
+    }
+}
+
+/// The calls for the keys alone answer those of `intersect`.
+fn keys_agree(a: &[u8], b: &[u8]) {
+    let keys = match intersect(a, b) {
+        Ok(Some(joined)) => [joined.range.start, joined.range.end].map(key_of),
+        _ => [vec![], vec![]],
+    };
+    let start = lend(keys[0].len(), |out| intersect_start_key(a, b, out));
+    let end = lend(keys[1].len() + 1, |out| intersect_end_key(a, b, out));
+    assert_eq!([start.unwrap(), end.unwrap()], keys);
+}
+
+fn range_record(call: usize, x: [u8; 3], room: usize, a: &[u8], b: &[u8]) -> Vec<u8> {
+    match call {
+        1 => outcome(compare(a, b), |order| order_number(order as i8)),
+        2 => cmp_bound_record(x, a, b),
+        3 => outcome(non_empty(a), |is| vec![is.into()]),
+        4 => {
+            keys_agree(a, b);
+            outcome(intersect(a, b), joined_record)
+        }
+        5 => outcome(union(a, b), joined_record),
+        6 => recorded(lend(room, |out| from_prefix(a, out))),
+        7 => recorded(lend(room, |out| from_prefix_and_subrange(a, b, out))),
+        8 => outcome(as_point(a), |key| {
+            key.map_or(vec![0], |key| [&[1], key].concat())
+        }),
+        9 => outcome(contains(a, b), |is| vec![is.into()]),
+        _ => panic!("call {call}"),
+    }
+}
+
+#[test]
+fn ranges() {
+    let records = records("replay_ranges");
+    let mut rest = &records[..];
+    let mut called = 0;
+    while !rest.is_empty() {
+        let call = number(&mut rest, 1);
+        let x = take(&mut rest, 3).try_into().unwrap();
+        let room = number(&mut rest, 2);
+        let lengths = [0; 3].map(|_| number(&mut rest, 2));
+        let [a, b, answer] = lengths.map(|length| take(&mut rest, length));
+        let made = range_record(call, x, room, a, b);
+        assert_eq!(
+            made, answer,
+            "call {call}, {x:?}, room {room}, {a:x?}, {b:x?}"
+        );
+        called += 1;
+    }
+    assert_eq!(called, 4328);
+}
+
+// ---- images and commits
+
+/// A record with a head of 20 bytes.
+struct Record<'a> {
+    call: usize,
+    x: usize,
+    y: usize,
+    bytes: &'a [u8],
+}
+
+fn next<'a>(rest: &mut &'a [u8]) -> Record<'a> {
+    let call = number(rest, 1);
+    let [x, y] = [0; 2].map(|_| number(rest, 8));
+    let length = number(rest, 3);
+    let bytes = take(rest, length);
+    Record { call, x, y, bytes }
+}
+
+/// Keeps the first bytes of a buffer and puts others after them.
+fn put(buffer: &mut Vec<u8>, record: &Record) {
+    buffer.truncate(record.x);
+    buffer.extend(record.bytes);
+}
+
+/// Extends a buffer by bytes that repeat those so far before them.
+fn repeat(buffer: &mut Vec<u8>, record: &Record) {
+    for at in buffer.len()..record.x {
+        buffer.push(buffer[at - record.y]);
+    }
+}
+
+fn bound_in(image: &[u8], bound: Bound<&[u8]>) -> (u8, Vec<u8>) {
+    let (kind, key) = match bound {
+        Bound::Unbounded => return (0, vec![]),
+        Bound::Included(key) => (1, key),
+        Bound::Excluded(key) => (2, key),
+    };
+    let at = key.as_ptr() as usize - image.as_ptr() as usize;
+    let place = &(at as u32).to_be_bytes()[1..];
+    let length = (key.len() as u16).to_be_bytes();
+    (kind, [place, &length].concat())
+}
+
+fn effective_record(image: &[u8], range: Range) -> Vec<u8> {
+    let (start_kind, start) = bound_in(image, range.start);
+    let (end_kind, end) = bound_in(image, range.end);
+    [vec![start_kind, end_kind], start, end].concat()
+}
+
+#[test]
+fn images() {
+    let records = records("replay_images");
+    let mut rest = &records[..];
+    let mut image = Vec::new();
+    let mut called = 0;
+    while !rest.is_empty() {
+        let record = next(&mut rest);
+        let made = match record.call {
+            0 => {
+                put(&mut image, &record);
+                continue;
+            }
+            4 => {
+                repeat(&mut image, &record);
+                continue;
+            }
+            1 => outcome(check_image(&image), |()| vec![]),
+            2 => outcome(
+                compacted_effective_range(&image, record.x, record.y),
+                |range| effective_record(&image, range),
+            ),
+            3 => recorded(lend(record.x, |out| list(&image, out))),
+            call => panic!("call {call}"),
+        };
+        assert_eq!(made, record.bytes, "call {} on {image:x?}", record.call);
+        called += 1;
+    }
+    assert_eq!(called, 4620);
+}
+
+/// A commit of what the buffers hold. In a list it makes what it wrote the image.
+fn commit_record(record: &Record, [image, job, ids, answer]: &mut [Vec<u8>; 4]) {
+    let made = lend(record.x, |out| commit(image, job, ids, out));
+    assert_eq!(
+        recorded(made.clone()),
+        *answer,
+        "image {image:x?}, job {job:x?}"
+    );
+    if let (Ok(new), 1) = (made, record.y) {
+        *image = new;
+    }
+}
+
+#[test]
+fn commits() {
+    let records = records("replay_commits");
+    let mut rest = &records[..];
+    let mut buffers = [const { Vec::new() }; 4];
+    let mut called = 0;
+    while !rest.is_empty() {
+        let record = next(&mut rest);
+        match record.call {
+            0..=3 => put(&mut buffers[record.call], &record),
+            4..=7 => repeat(&mut buffers[record.call - 4], &record),
+            8 => {
+                commit_record(&record, &mut buffers);
+                called += 1;
+            }
+            call => panic!("call {call}"),
+        }
+    }
+    assert_eq!(called, 3390);
+}

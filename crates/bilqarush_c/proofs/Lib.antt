@@ -1,0 +1,2 @@
+pub mod TellExits
+pub mod PutExits

@@ -1,0 +1,95 @@
+-- The exits of the calls for C: what the call without C answers decides what is returned, the slot and the buffer.
+-- Assumes nothing.
+use Prim.Native.Nat.{ℕ}
+use mathlib.Core.Path.{_≡_, refl, sym, ap, _∙_}
+use mathlib.Core.List.{List}
+use mathlib.Core.Option.{Option}
+use lib.IntN.{ℤ}
+use lib.ListN.{length}
+use Rattle.base.specs.Outcome.{Outcome, stop, answer, lent, reported, writtenTo}
+use Rattle.base.specs.declared.Written.{Written}
+use Rattle.bilqarush.specs.Calls.{asPointOutcome, Joint}
+use Rattle.bilqarush.specs.Answers.{orderOf, PointFound, JointFound}
+use Rattle.bilqarush.specs.ImageCalls.{checkedAnswer, compactedEffectiveRangeOutcome, ViewRangeFound}
+use Rattle.bilqarush.specs.declared.Compared.{Compared}
+use Rattle.bilqarush.specs.declared.Compared.the-variants.{Order}
+use Rattle.bilqarush.specs.declared.Point.{Point}
+use Rattle.bilqarush.specs.declared.Joined.{Joined}
+use Rattle.bilqarush.specs.declared.images.Checked.{Checked}
+use Rattle.bilqarush.specs.declared.images.Checked.the-variants.{Accepted, Stop}
+use Rattle.bilqarush.specs.declared.images.ViewRange.{ViewRange}
+use Rattle.bilqarush_c.specs.Told.{stopOf, slot, sized, counted, Told}
+use Rattle.bilqarush_c.specs.Layouts.{pointTo, joinedTo, viewRangeTo, PointTold, JointTold, ViewRangeTold}
+
+-- ---- numbers
+pub order-kept : {c : Compared} {z : ℤ} (before : ℤ) → c ≡ Order z → z ≡ slot before (orderOf c)
+order-kept before e = sym (ap (λ x. slot before (orderOf x)) e)
+
+module _ {A : Type 0} {o p : Outcome A} (e : o ≡ p) where
+  pub told-stop : {r : ℕ} → r ≡ stopOf o → r ≡ stopOf p
+  told-stop q = q ∙ ap stopOf e
+
+  pub told-slot : (before : A) {after : A} → after ≡ slot before o → after ≡ slot before p
+  told-slot before q = q ∙ ap (slot before) e
+
+pub ruleset number-exits = (told-stop, told-slot)
+
+-- ---- bytes
+counted-reported : (o : Outcome (List ℕ)) → counted (reported o) ≡ sized o
+counted-reported (stop n) = refl
+counted-reported (answer b) = refl
+
+stop-sized : (o : Outcome (List ℕ)) → stopOf (sized o) ≡ stopOf o
+stop-sized (stop n) = refl
+stop-sized (answer b) = refl
+
+module _ {d e : List ℕ} {w : Written} {before after r : ℕ} (q : r ≡ stopOf (counted w)) (s : after ≡ slot before (counted w)) where
+  pub told : {o : Outcome (List ℕ)} → w ≡ reported o → e ≡ lent d o → Told o d e before after r
+  told {o} x y =
+      record {
+        returns = q ∙ ap (λ v. stopOf (counted v)) x ∙ ap stopOf (counted-reported o) ∙ stop-sized o;
+        buffer = y;
+        count = s ∙ ap (λ v. slot before (counted v)) x ∙ ap (slot before) (counted-reported o);
+      }
+
+  pub key-told :
+      {k l : List ℕ}
+      → k ≡ l
+      → w ≡ reported (writtenTo (length d) k)
+      → e ≡ lent d (writtenTo (length d) k)
+      → Told (writtenTo (length d) l) d e before after r
+  key-told t x y = told (x ∙ ap (λ m. reported (writtenTo (length d) m)) t) (y ∙ ap (λ m. lent d (writtenTo (length d) m)) t)
+
+  pub point-told :
+      {range : List ℕ} {p : Point}
+      → PointFound range (asPointOutcome range) p
+      → w ≡ reported (pointTo (length d) p)
+      → e ≡ lent d (pointTo (length d) p)
+      → PointTold range d e before after r
+  point-told {range} {p} f x y = record { point = p; found = f; told = told x y }
+
+  pub joint-told :
+      {a b : List ℕ} {g : Outcome (Option Joint)} {j : Joined}
+      → JointFound a b g j
+      → w ≡ reported (joinedTo (length d) j)
+      → e ≡ lent d (joinedTo (length d) j)
+      → JointTold a b g d e before after r
+  joint-told {a} {b} {g} {j} f x y = record { joined = j; found = f; told = told x y }
+
+  pub view-range-told :
+      {image : List ℕ} {run view : ℕ} {v : ViewRange}
+      → ViewRangeFound image (compactedEffectiveRangeOutcome image run view) v
+      → w ≡ reported (viewRangeTo (length d) v)
+      → e ≡ lent d (viewRangeTo (length d) v)
+      → ViewRangeTold image run view d e before after r
+  view-range-told {v = v} f x y = record { range = v; found = f; told = told x y }
+
+-- ---- check_image
+module _ {x : Checked} {o : Outcome Unit} (e : checkedAnswer x ≡ o) where
+  pub image-refused : {n : ℕ} → x ≡ Stop n → n ≡ stopOf o
+  image-refused q = sym (ap (λ y. stopOf (checkedAnswer y)) q) ∙ ap stopOf e
+
+  pub image-accepted : x ≡ Accepted → 0 ≡ stopOf o
+  image-accepted q = sym (ap (λ y. stopOf (checkedAnswer y)) q) ∙ ap stopOf e
+
+pub ruleset image-exits = (image-refused, image-accepted)

@@ -1,0 +1,244 @@
+/*
+ * Bilqarush: ranges of byte keys, images of runs, and the commit of a compaction, after slatedb 0.18.0.
+ *
+ * Link libbilqarush_c.a, which `rt staticlib bilqarush_c` writes to target/staticlib, for x86-64 Linux. Of the C library it
+ * needs memcpy and memset alone. What each call answers is proved for every input; docs/PROMISES.md names the definitions.
+ *
+ *
+ * WHAT A CALL RETURNS
+ *
+ * Each call returns 0 if it answered, else the number of the stop that refused it. The stops in words, after document 01:
+ *
+ *    1  The input ends inside a field, or bytes remain after the last.
+ *    2  A padding bit is set or a kind is 3.
+ *    3  A length, count or setting exceeds its ceiling, or a prefix and suffix join to over 1,024 bytes.
+ *    4  A range, given (but to non_empty) or joined from a prefix and a subrange, fails non_empty.
+ *    5  A last key is below its first key, a visible range starts excluded, or it does not meet its table's own range.
+ *    6  View starts in a run or first keys within one index image descend, or two runs share an id.
+ *    7  Anchor bytes total 2^63 or more, or index_offset + index_len exceeds 2^53.
+ *    8  The destination is not a source.
+ *    9  A source, or a run or view called by place, is not in the image.
+ *   10  A planned range starts excluded or ends included, or a part begins before the previous part's end (unbounded is
+ *       least as a start, greatest as an end).
+ *   11  An output lacks a last key, is not wholly inside its planned range, or starts below the last key of its part's
+ *       previous output.
+ *   12  A destination view of an output table holds some key that lies in no durable interval.
+ *   13  A retained range misses its table's own range. (Proved never to hold, so no call returns it.)
+ *   14  The id supply is used up with an id still to draw.
+ *   15  A result has over 1,024 views in a run, over 4,096 anchors, or is an image over 65,536 bytes.
+ *   16  The output buffer is shorter than the answer.
+ *
+ * The stops of a call are listed in checking order; the first whose check fails is returned. "The fields of x" stands for
+ * the stops 1 to 3 of a buffer: its length (3); then field by field in reading order, each tested before the next is read;
+ * then the bytes that remain (1). A field is each number, flag, padding, key length and key bytes by itself.
+ *
+ *
+ * BUFFERS
+ *
+ * A slice of bytes is a pointer and then a length. Pointers are never NULL, even where the length is 0: a pointer to any
+ * byte will do there. Slices that are only read may overlap each other. What is written (`out` and the slots `order`, `is`
+ * and `written`) overlaps nothing else that the call is given, and has a value before the call.
+ *
+ * After a stop every byte and every slot is as it was. After 0 a call that has `out` has written the first *written bytes
+ * of it; the bytes past them are as they were. What is read is never written. No call allocates, keeps a pointer or keeps
+ * anything for the next call, so calls on buffers of their own may run in several threads at once.
+ *
+ *
+ * LAYOUTS
+ *
+ * Fields are packed most significant bit first, with these widths in bits; padding is zero.
+ *
+ *   key     length 16, bytes
+ *   range   start kind 2, end kind 2, padding 4; start key, end key where the kind has one
+ *   table   id 128, index_offset 64, index_len 64, filter_offset 64, last-key flag 1, padding 7, first key, last key if
+ *           flagged
+ *   view    id 128, table, visible flag 1, padding 7, range if flagged
+ *   image   run count 8; each run: id 32, view count 12, padding 4, views
+ *   job     destination 32, source count 8, source ids 32 each, part count 8; each part: range, completed flag 1, output
+ *           count 15, tables
+ *
+ * Kinds are 0 unbounded, 1 included, 2 excluded. Ids have 48 bits of time and 80 random bits.
+ *
+ * A range that is an argument (range, subrange, a and b of the calls on two ranges) is a range image: one range in this
+ * layout, whole. A key or prefix that is an argument is its bare bytes, without a length before them. Keys are ordered by
+ * the first unequal byte, a proper prefix coming first.
+ */
+#ifndef BILQARUSH_H
+#define BILQARUSH_H
+
+#include <stddef.h>
+#include <stdint.h>
+#ifndef __cplusplus
+#include <stdbool.h>
+#endif
+
+/* Ceilings. BILQARUSH_MAX_BUFFER is that of an input buffer (the id supply apart) and of a written image. */
+#define BILQARUSH_MAX_KEY 1024
+#define BILQARUSH_MAX_BUFFER 65536
+#define BILQARUSH_MAX_RUNS 64
+#define BILQARUSH_MAX_VIEWS 1024 /* of a run */
+#define BILQARUSH_MAX_SOURCES 64
+#define BILQARUSH_MAX_PARTS 64
+#define BILQARUSH_MAX_OUTPUTS 1024 /* of a part */
+
+/* Kinds of a bound. */
+#define BILQARUSH_UNBOUNDED 0
+#define BILQARUSH_INCLUDED 1
+#define BILQARUSH_EXCLUDED 2
+
+/* Which of two ranges supplied a bound. */
+#define BILQARUSH_FIRST 1
+#define BILQARUSH_SECOND 2
+
+/* Lengths of `out` that are always enough. */
+#define BILQARUSH_POINT_LEN 17       /* as_point */
+#define BILQARUSH_JOINED_LEN 37      /* intersect, union */
+#define BILQARUSH_VIEW_RANGE_LEN 34  /* compacted_effective_range */
+#define BILQARUSH_KEY_LEN 1024       /* intersect_start_key, intersect_end_key */
+#define BILQARUSH_RANGE_LEN 2053     /* from_prefix, from_prefix_and_subrange */
+#define BILQARUSH_LISTING_LEN 131097 /* list; 25 + 2 * image_len is enough too */
+#define BILQARUSH_IMAGE_LEN 65536    /* commit */
+
+#ifdef __cplusplus
+extern "C" {
+#endif
+
+/* ---- Keys and bounds ---- */
+
+/*
+ * The order of two keys: *order is -1, 0 or 1.
+ * Stops: 3 if a is over 1,024 bytes, then 3 if b is.
+ */
+uint8_t bilqarush_compare(const uint8_t *a, size_t a_len, const uint8_t *b, size_t b_len, int8_t *order);
+
+/*
+ * The order of two bounds, both starts (`start` true) or both ends: *order is -1, 0 or 1. A bound is given as its kind and
+ * its key; an unbounded one has a key of 0 bytes. At equal keys, included comes before excluded as a start and after it as
+ * an end. An unbounded start is least, an unbounded end greatest.
+ * Stops, of the first bound and then of the second: 2 if the kind is over 2; 3 if the key is over 1,024 bytes (over 65,536
+ * where unbounded); 1 if an unbounded bound has bytes.
+ */
+uint8_t bilqarush_cmp_bound(uint8_t a_kind, const uint8_t *a, size_t a_len, uint8_t b_kind, const uint8_t *b,
+                            size_t b_len, bool start, int8_t *order);
+
+/* ---- Ranges ---- */
+
+/*
+ * Whether a range passes slatedb's rule: with two keys, start < end, or equality if both are included; with an unbounded
+ * side always. Two kinds of range pass and hold no key: excluded k to excluded k followed by 00, and unbounded to excluded
+ * empty key.
+ * Stops: the fields of range.
+ */
+uint8_t bilqarush_non_empty(const uint8_t *range, size_t range_len, bool *is);
+
+/*
+ * Whether a range holds a key.
+ * Stops: the fields of range; 3 if key is over 1,024 bytes; 4.
+ */
+uint8_t bilqarush_contains(const uint8_t *range, size_t range_len, const uint8_t *key, size_t key_len, bool *is);
+
+/*
+ * The key of a range that is one point: both bounds included, with equal keys.
+ * Writes one byte 0 if the range is no point (*written 1); else one byte 1, then the place of the start's key in `range`
+ * and its length, 8 bytes each, most significant first (*written 17).
+ * Stops: the fields of range; 4; 16.
+ */
+uint8_t bilqarush_as_point(const uint8_t *range, size_t range_len, uint8_t *out, size_t out_len, size_t *written);
+
+/*
+ * The intersection of two ranges: the greater start and the lesser end; of equal bounds, b's start and a's end.
+ * Writes one byte 0 if there is none (*written 1); else one byte 1, then the start and the end (*written 37). Each bound:
+ * kind, 1 byte; the range that supplied it, 1 byte (1 a, 2 b); the place of its key in that slice and its length, 8 bytes
+ * each, most significant first. For an unbounded bound place and length say nothing.
+ * Stops: the fields of a, then of b; 4 of either; 16.
+ */
+uint8_t bilqarush_intersect(const uint8_t *a, size_t a_len, const uint8_t *b, size_t b_len, uint8_t *out,
+                            size_t out_len, size_t *written);
+
+/*
+ * The key of the intersection's start. Writes its bytes; none (*written 0, no stop) where bilqarush_intersect stops, finds
+ * none or starts unbounded.
+ * Stops: 16.
+ */
+uint8_t bilqarush_intersect_start_key(const uint8_t *a, size_t a_len, const uint8_t *b, size_t b_len, uint8_t *out,
+                                      size_t out_len, size_t *written);
+
+/* The key of the intersection's end, in the same way. Stops: 16. */
+uint8_t bilqarush_intersect_end_key(const uint8_t *a, size_t a_len, const uint8_t *b, size_t b_len, uint8_t *out,
+                                    size_t out_len, size_t *written);
+
+/*
+ * The union of two ranges that meet or are adjacent, as slatedb has it: none for [a,a] and [a00,b], though no key lies
+ * between. The start is the lesser range's (by start, then by end; b's if they are equal); the end is the greater, of equal
+ * ends the other range's.
+ * Writes and stops as bilqarush_intersect.
+ */
+uint8_t bilqarush_union(const uint8_t *a, size_t a_len, const uint8_t *b, size_t b_len, uint8_t *out, size_t out_len,
+                        size_t *written);
+
+/*
+ * The range of the keys that begin with a prefix. Writes a range image: from the prefix included up to the next prefix
+ * excluded, or unbounded where the prefix has no next (it is all FF); for an empty prefix unbounded on both sides.
+ * Stops: 3 if prefix is over 1,024 bytes; 16.
+ */
+uint8_t bilqarush_from_prefix(const uint8_t *prefix, size_t prefix_len, uint8_t *out, size_t out_len, size_t *written);
+
+/*
+ * The range of the keys that are a prefix and then a key of a subrange. Writes a range image.
+ * Stops: 3 if prefix is over 1,024 bytes; the fields of subrange; 3 if the prefix and a key of the subrange join to over
+ * 1,024 bytes; 4 of the subrange or of the joined range; 16.
+ */
+uint8_t bilqarush_from_prefix_and_subrange(const uint8_t *prefix, size_t prefix_len, const uint8_t *subrange,
+                                           size_t subrange_len, uint8_t *out, size_t out_len, size_t *written);
+
+/* ---- Images ---- */
+
+/*
+ * Whether bytes are an image, which the calls below then take: 0 if so.
+ * Stops: the fields of image; 4; 5; 6; 7.
+ */
+uint8_t bilqarush_check_image(const uint8_t *image, size_t image_len);
+
+/*
+ * The effective range of a view: its table's own range, cut by its visible range. `run` is the run's place in the image
+ * and `view` the view's place in its run, both from 0.
+ * Writes the start and the end (*written 34). Each: kind, 1 byte; the place of its key in `image` and its length, 8 bytes
+ * each, most significant first. For an unbounded end place and length say nothing.
+ * Stops: as bilqarush_check_image; 9; 16.
+ */
+uint8_t bilqarush_compacted_effective_range(const uint8_t *image, size_t image_len, size_t run, size_t view,
+                                            uint8_t *out, size_t out_len, size_t *written);
+
+/*
+ * The listing of an image. Writes text in ASCII, each line ended by a newline and no 0 byte after the last: the header
+ * `run view table start end`, then a line for each view, as in
+ *
+ *     7 0 00000000000000000000000000000001 [61 63]
+ *     7 1 00000000000000000000000000000002 [64 -
+ *
+ * Run id and view place are decimal, table id and keys lowercase hexadecimal. The bounds are those of the effective range,
+ * an excluded one with a round bracket, an unbounded one as `-`.
+ * Stops: as bilqarush_check_image; 16.
+ */
+uint8_t bilqarush_list(const uint8_t *image, size_t image_len, uint8_t *out, size_t out_len, size_t *written);
+
+/*
+ * The commit of a compaction's record, finished or not. Writes the image in which what is durable of the job shows through
+ * its output tables in the destination and no longer through the sources. Durable is the planned range of a completed part;
+ * of an unfinished one, its planned range up to, without, the last key of its last output, and nothing if it has no output
+ * or that key is its start.
+ *
+ * A new view id keeps the 48 bits of time of the old one and takes the next 10 bytes of `ids`, and 10 more if that makes
+ * the old id again; a rest of under 10 bytes counts as used up. Cut outputs draw first, in job order, then the views of
+ * source runs, in image order. The supply has no ceiling. The call takes about 50 KB of stack.
+ *
+ * Stops: the fields of image, then of job; 4, 5, 6 and 7, each over both before the next; 8; 9; 10; 11; 12; 14; 15; 16.
+ */
+uint8_t bilqarush_commit(const uint8_t *image, size_t image_len, const uint8_t *job, size_t job_len, const uint8_t *ids,
+                         size_t ids_len, uint8_t *out, size_t out_len, size_t *written);
+
+#ifdef __cplusplus
+}
+#endif
+
+#endif
