@@ -1,0 +1,207 @@
+//! The proved library's calls, by its C interface: a slice is a pointer and a length, and the
+//! number of a stop is returned, 0 if none.
+use oracle::direct::Checked;
+
+extern "C" {
+    fn bilqarush_compare(
+        a: *const u8,
+        a_len: usize,
+        b: *const u8,
+        b_len: usize,
+        order: *mut i8,
+    ) -> u8;
+    fn bilqarush_cmp_bound(
+        a_kind: u8,
+        a: *const u8,
+        a_len: usize,
+        b_kind: u8,
+        b: *const u8,
+        b_len: usize,
+        start: bool,
+        order: *mut i8,
+    ) -> u8;
+    fn bilqarush_non_empty(range: *const u8, range_len: usize, is: *mut bool) -> u8;
+    fn bilqarush_contains(
+        range: *const u8,
+        range_len: usize,
+        key: *const u8,
+        key_len: usize,
+        is: *mut bool,
+    ) -> u8;
+    fn bilqarush_check_image(image: *const u8, image_len: usize) -> u8;
+    fn bilqarush_compacted_effective_range(
+        image: *const u8,
+        image_len: usize,
+        run: usize,
+        view: usize,
+        out: *mut u8,
+        out_len: usize,
+        written: *mut usize,
+    ) -> u8;
+    fn bilqarush_commit(
+        image: *const u8,
+        image_len: usize,
+        job: *const u8,
+        job_len: usize,
+        ids: *const u8,
+        ids_len: usize,
+        out: *mut u8,
+        out_len: usize,
+        written: *mut usize,
+    ) -> u8;
+}
+
+fn answered<T>(stop: u8, answer: T) -> Checked<T> {
+    if stop == 0 {
+        Ok(answer)
+    } else {
+        Err(stop)
+    }
+}
+
+pub fn compare(a: &[u8], b: &[u8]) -> Checked<i8> {
+    let mut order = 0;
+    let stop = unsafe { bilqarush_compare(a.as_ptr(), a.len(), b.as_ptr(), b.len(), &mut order) };
+    answered(stop, order)
+}
+
+pub fn cmp_bound(a_kind: u8, a: &[u8], b_kind: u8, b: &[u8], start: bool) -> Checked<i8> {
+    let mut order = 0;
+    let stop = unsafe {
+        bilqarush_cmp_bound(
+            a_kind,
+            a.as_ptr(),
+            a.len(),
+            b_kind,
+            b.as_ptr(),
+            b.len(),
+            start,
+            &mut order,
+        )
+    };
+    answered(stop, order)
+}
+
+pub fn non_empty(range: &[u8]) -> Checked<bool> {
+    let mut is = false;
+    let stop = unsafe { bilqarush_non_empty(range.as_ptr(), range.len(), &mut is) };
+    answered(stop, is)
+}
+
+pub fn contains(range: &[u8], key: &[u8]) -> Checked<bool> {
+    let mut is = false;
+    let stop = unsafe {
+        bilqarush_contains(
+            range.as_ptr(),
+            range.len(),
+            key.as_ptr(),
+            key.len(),
+            &mut is,
+        )
+    };
+    answered(stop, is)
+}
+
+pub fn check_image(image: &[u8]) -> Checked<()> {
+    answered(
+        unsafe { bilqarush_check_image(image.as_ptr(), image.len()) },
+        (),
+    )
+}
+
+pub fn compacted_effective_range(
+    image: &[u8],
+    run: usize,
+    view: usize,
+    out: &mut [u8],
+) -> Checked<usize> {
+    let mut written = 0;
+    let stop = unsafe {
+        bilqarush_compacted_effective_range(
+            image.as_ptr(),
+            image.len(),
+            run,
+            view,
+            out.as_mut_ptr(),
+            out.len(),
+            &mut written,
+        )
+    };
+    answered(stop, written)
+}
+
+pub fn commit(image: &[u8], job: &[u8], ids: &[u8], out: &mut [u8]) -> Checked<usize> {
+    let mut written = 0;
+    let stop = unsafe {
+        bilqarush_commit(
+            image.as_ptr(),
+            image.len(),
+            job.as_ptr(),
+            job.len(),
+            ids.as_ptr(),
+            ids.len(),
+            out.as_mut_ptr(),
+            out.len(),
+            &mut written,
+        )
+    };
+    answered(stop, written)
+}
+
+/// Calls that read one slice, or two, and write one.
+macro_rules! writers {
+    (one $($name:ident $symbol:ident),*) => {$(
+        pub fn $name(a: &[u8], out: &mut [u8]) -> Checked<usize> {
+            extern "C" {
+                fn $symbol(
+                    a: *const u8,
+                    a_len: usize,
+                    out: *mut u8,
+                    out_len: usize,
+                    written: *mut usize,
+                ) -> u8;
+            }
+            let mut written = 0;
+            let stop = unsafe {
+                $symbol(a.as_ptr(), a.len(), out.as_mut_ptr(), out.len(), &mut written)
+            };
+            answered(stop, written)
+        }
+    )*};
+    (two $($name:ident $symbol:ident),*) => {$(
+        pub fn $name(a: &[u8], b: &[u8], out: &mut [u8]) -> Checked<usize> {
+            extern "C" {
+                fn $symbol(
+                    a: *const u8,
+                    a_len: usize,
+                    b: *const u8,
+                    b_len: usize,
+                    out: *mut u8,
+                    out_len: usize,
+                    written: *mut usize,
+                ) -> u8;
+            }
+            let mut written = 0;
+            let stop = unsafe {
+                $symbol(
+                    a.as_ptr(),
+                    a.len(),
+                    b.as_ptr(),
+                    b.len(),
+                    out.as_mut_ptr(),
+                    out.len(),
+                    &mut written,
+                )
+            };
+            answered(stop, written)
+        }
+    )*};
+}
+
+writers!(one as_point bilqarush_as_point, from_prefix bilqarush_from_prefix, list bilqarush_list);
+writers!(two
+    intersect bilqarush_intersect,
+    intersect_start_key bilqarush_intersect_start_key,
+    intersect_end_key bilqarush_intersect_end_key,
+    union bilqarush_union,
+    from_prefix_and_subrange bilqarush_from_prefix_and_subrange);

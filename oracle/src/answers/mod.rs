@@ -1,0 +1,5 @@
+//! What the calls answer. Values are the originals'; stops are those of `checks`.
+pub mod commits;
+pub mod images;
+pub mod paper;
+pub mod ranges;

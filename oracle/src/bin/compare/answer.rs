@@ -1,0 +1,170 @@
+//! What a call must do: slatedb's answer in the form that the proved library gives it, or the
+//! number of the stop by the second reading of document 01.
+use crate::call::{hexadecimal, Call, Question};
+use oracle::answers::commits::{self, Deeds};
+use oracle::answers::images::{at, effective, listing};
+use oracle::answers::ranges::{value, Sided, Value};
+use oracle::checks::{check_image, read_range, Checked, PlacedRun, Stop};
+use oracle::inputs::range_image;
+use oracle::{key_of, kind_of, Bound, Range};
+
+/// Bytes of an answer, of which some stand for nothing.
+#[derive(Clone, Debug, Default)]
+pub struct Bytes {
+    pub bytes: Vec<u8>,
+    open: Vec<std::ops::Range<usize>>,
+}
+
+impl Bytes {
+    /// Whether these are the bytes, but for those that stand for nothing.
+    pub fn is(&self, other: &[u8]) -> bool {
+        if self.open.is_empty() {
+            return self.bytes == other;
+        }
+        let mut other = other.to_vec();
+        for open in &self.open {
+            other[open.clone()].copy_from_slice(&self.bytes[open.clone()]);
+        }
+        self.bytes == other
+    }
+
+    /// A place and a length, 8 bytes each. The place of no key stands for nothing.
+    fn push_place(&mut self, bound: &Bound, place: usize) {
+        let from = self.bytes.len();
+        let length = key_of(bound).map_or(0, Vec::len);
+        self.bytes.extend((place as u64).to_be_bytes());
+        self.bytes.extend((length as u64).to_be_bytes());
+        if kind_of(bound) == 0 {
+            self.open.push(from..from + 8);
+        }
+    }
+}
+
+#[derive(Clone, Debug)]
+pub enum Answer {
+    Order(i8),
+    Is(bool),
+    Accepted,
+    Wrote(Bytes),
+}
+
+pub type Expected = Checked<Answer>;
+
+/// The answer, as it is told.
+pub fn told(expected: &Expected) -> String {
+    match expected {
+        Err(stop) => format!("stop {stop}"),
+        Ok(Answer::Order(order)) => format!("{order}"),
+        Ok(Answer::Is(is)) => format!("{}", u8::from(*is)),
+        Ok(Answer::Accepted) => "accepted".into(),
+        Ok(Answer::Wrote(Bytes { bytes, open })) => {
+            let mut text = format!("{} bytes: {}", bytes.len(), hexadecimal(bytes));
+            for open in open {
+                text += &format!(" (of which {open:?} stand for nothing)");
+            }
+            text
+        }
+    }
+}
+
+pub fn expected(question: &Question) -> Expected {
+    match question.call {
+        Call::CheckImage | Call::CompactedEffectiveRange | Call::List => {
+            expected_on(&check_image(&question.a), question)
+        }
+        Call::Commit => {
+            let bytes = commits::answer(&question.case(), &mut Deeds::default())?;
+            Ok(wrote(bytes))
+        }
+        _ => expected_of(&value(&question.input()), question),
+    }
+}
+
+pub fn wrote(bytes: Vec<u8>) -> Answer {
+    Answer::Wrote(Bytes {
+        bytes,
+        open: vec![],
+    })
+}
+
+/// Check 16.
+fn fits(bytes: Bytes, room: usize) -> Expected {
+    if room < bytes.bytes.len() {
+        return Err(16);
+    }
+    Ok(Answer::Wrote(bytes))
+}
+
+/// Of a range call whose answer with room enough is known. It is that of `intersect` for the
+/// three calls on an intersection.
+pub fn expected_of(known: &Checked<Value>, question: &Question) -> Expected {
+    let bytes = match (question.call, known) {
+        (Call::IntersectStartKey, Ok(Value::Joined(Some(sided)))) => key_bytes(&sided.range.0),
+        (Call::IntersectEndKey, Ok(Value::Joined(Some(sided)))) => key_bytes(&sided.range.1),
+        (Call::IntersectStartKey | Call::IntersectEndKey, _) => Bytes::default(),
+        (_, Err(stop)) => return Err(*stop),
+        (_, Ok(Value::Order(order))) => return Ok(Answer::Order(*order as i8)),
+        (_, Ok(Value::Is(is))) => return Ok(Answer::Is(*is)),
+        (_, Ok(Value::Point(None) | Value::Joined(None))) => plain(vec![0]),
+        (_, Ok(Value::Point(Some(_)))) => point(&read_range(&question.a).unwrap()),
+        (_, Ok(Value::Joined(Some(sided)))) => joined(sided, question),
+        (_, Ok(Value::Range(range))) => plain(range_image(range)),
+    };
+    fits(bytes, question.room)
+}
+
+fn plain(bytes: Vec<u8>) -> Bytes {
+    Bytes {
+        bytes,
+        open: vec![],
+    }
+}
+
+fn key_bytes(bound: &Bound) -> Bytes {
+    plain(key_of(bound).cloned().unwrap_or_default())
+}
+
+/// Places of the keys in a range's image: after the head, and after each key's length.
+fn places(range: &Range) -> (usize, usize) {
+    let start = key_of(&range.0).map_or(0, |key| 2 + key.len());
+    (1 + 2, 1 + start + 2)
+}
+
+fn point(range: &Range) -> Bytes {
+    let mut answer = plain(vec![1]);
+    answer.push_place(&range.0, places(range).0);
+    answer
+}
+
+/// For each bound its kind, the side that gave it and the place of its key there.
+fn joined(sided: &Sided, question: &Question) -> Bytes {
+    let given = [&question.a, &question.b].map(|image| places(&read_range(image).unwrap()));
+    let mut answer = plain(vec![1]);
+    let Sided { range, start, end } = sided;
+    answer.bytes.extend([kind_of(&range.0), *start]);
+    answer.push_place(&range.0, given[usize::from(*start) - 1].0);
+    answer.bytes.extend([kind_of(&range.1), *end]);
+    answer.push_place(&range.1, given[usize::from(*end) - 1].1);
+    answer
+}
+
+/// Of a call on an image that was checked.
+pub fn expected_on(checked: &Checked<Vec<PlacedRun>>, question: &Question) -> Expected {
+    let image = checked.as_ref().map_err(|stop| *stop)?;
+    match question.call {
+        Call::CheckImage => Ok(Answer::Accepted),
+        Call::CompactedEffectiveRange => {
+            let run = at(image, question.x).ok_or(9 as Stop)?;
+            let placed = at(&run.views, question.y).ok_or(9 as Stop)?;
+            let (range, start, end) = effective(placed);
+            let mut answer = Bytes::default();
+            answer.bytes.push(kind_of(&range.0));
+            answer.push_place(&range.0, start);
+            answer.bytes.push(kind_of(&range.1));
+            answer.push_place(&range.1, end);
+            fits(answer, question.room)
+        }
+        Call::List => fits(plain(listing(image)), question.room),
+        _ => panic!("no call on an image alone: {}", question.call.name()),
+    }
+}

@@ -1,0 +1,218 @@
+//! Asks the proved library. Every lent byte, and bytes on both sides of the lent buffer, hold a
+//! pattern that differs from call to call, so that a change of any of them is seen.
+use crate::abi::*;
+use crate::answer::{Answer, Expected};
+use crate::call::{Call, Question};
+use crate::wrong::Wrong;
+use oracle::inputs::Chance;
+
+/// Bytes before and after the lent buffer.
+const EDGE: usize = 32;
+/// Patterns begin at one of so many places of the noise.
+const PLACES: usize = 65_536;
+/// The longest lent buffer.
+pub const MOST_ROOM: usize = 300_000;
+
+pub struct Lent {
+    noise: Vec<u8>,
+    pub wrong: Option<Wrong>,
+    pub mark: u64,
+    /// The copies that are lent, each with some bytes before it, so that places in memory vary.
+    pub slices: [Vec<u8>; 3],
+    shift: usize,
+    pub memory: Vec<u8>,
+    pub room: usize,
+    pub stop: u8,
+    pub order: i8,
+    pub is: u8,
+    pub written: usize,
+}
+
+impl Lent {
+    pub fn new(wrong: Option<Wrong>) -> Lent {
+        let mut chance = Chance(1);
+        let noise = (0..(PLACES + MOST_ROOM + 3 * EDGE) / 8)
+            .flat_map(|_| chance.next().to_le_bytes())
+            .collect();
+        Lent {
+            noise,
+            wrong,
+            mark: 0,
+            slices: Default::default(),
+            shift: 0,
+            memory: vec![],
+            room: 0,
+            stop: 0,
+            order: 0,
+            is: 0,
+            written: 0,
+        }
+    }
+
+    /// Where the lent buffer begins.
+    pub fn from(&self) -> usize {
+        EDGE + self.shift
+    }
+
+    pub fn out(&self) -> &[u8] {
+        &self.memory[self.from()..self.from() + self.room]
+    }
+
+    fn pattern(&self) -> &[u8] {
+        let at = self.mark as usize % PLACES;
+        &self.noise[at..at + self.room + 3 * EDGE]
+    }
+
+    /// The number slots before the call. A `bool` is 0 or 1.
+    fn slots(&self) -> (i8, u8, usize) {
+        let mark = self.mark;
+        ((mark >> 16) as i8, (mark >> 24) as u8 & 1, mark as usize)
+    }
+
+    pub fn ask(&mut self, question: &Question) {
+        assert!(question.room <= MOST_ROOM);
+        self.mark = question.mark();
+        self.room = question.room;
+        self.shift = (self.mark >> 32) as usize % 8;
+        let given = [&question.a, &question.b, &question.ids];
+        for (slice, given) in self.slices.iter_mut().zip(given) {
+            slice.clear();
+            slice.resize(self.shift, 0);
+            slice.extend(given);
+        }
+        let mut memory = std::mem::take(&mut self.memory);
+        memory.clear();
+        memory.extend(self.pattern());
+        self.memory = memory;
+        (self.order, self.is, self.written) = self.slots();
+        self.call(question);
+        if let Some(wrong) = self.wrong {
+            wrong.apply(question, self);
+        }
+    }
+
+    /// Slices are never null, and what is written overlaps nothing else that is lent.
+    fn call(&mut self, question: &Question) {
+        let [a, b, ids] = self.slices.each_ref().map(|slice| &slice[self.shift..]);
+        let (a, a_len, b, b_len) = (a.as_ptr(), a.len(), b.as_ptr(), b.len());
+        let (ids, ids_len) = (ids.as_ptr(), ids.len());
+        let (from, room) = (self.from(), self.room);
+        let out = self.memory[from..].as_mut_ptr();
+        let (x, y) = (question.x, question.y);
+        let (order, is, written) = (&mut self.order, &mut self.is, &mut self.written);
+        // SAFETY: each pointer is valid for its length, and the slots are this struct's.
+        self.stop = unsafe {
+            match question.call {
+                Call::Compare => bilqarush_compare(a, a_len, b, b_len, order),
+                Call::CmpBound => {
+                    let start = question.start;
+                    bilqarush_cmp_bound(x as u8, a, a_len, y as u8, b, b_len, start, order)
+                }
+                Call::NonEmpty => bilqarush_non_empty(a, a_len, is),
+                Call::Contains => bilqarush_contains(a, a_len, b, b_len, is),
+                Call::AsPoint => bilqarush_as_point(a, a_len, out, room, written),
+                Call::Intersect => bilqarush_intersect(a, a_len, b, b_len, out, room, written),
+                Call::IntersectStartKey => {
+                    bilqarush_intersect_start_key(a, a_len, b, b_len, out, room, written)
+                }
+                Call::IntersectEndKey => {
+                    bilqarush_intersect_end_key(a, a_len, b, b_len, out, room, written)
+                }
+                Call::Union => bilqarush_union(a, a_len, b, b_len, out, room, written),
+                Call::FromPrefix => bilqarush_from_prefix(a, a_len, out, room, written),
+                Call::FromPrefixAndSubrange => {
+                    bilqarush_from_prefix_and_subrange(a, a_len, b, b_len, out, room, written)
+                }
+                Call::CheckImage => bilqarush_check_image(a, a_len),
+                Call::CompactedEffectiveRange => {
+                    let (x, y) = (x as usize, y as usize);
+                    bilqarush_compacted_effective_range(a, a_len, x, y, out, room, written)
+                }
+                Call::List => bilqarush_list(a, a_len, out, room, written),
+                Call::Commit => {
+                    bilqarush_commit(a, a_len, b, b_len, ids, ids_len, out, room, written)
+                }
+            }
+        };
+    }
+
+    /// What is not as it must be after the call.
+    pub fn fault(&self, question: &Question, expected: &Expected) -> Option<String> {
+        self.fault_in_given(question)
+            .or_else(|| self.fault_in_answer(question.call, expected))
+            .or_else(|| self.fault_in_rest(expected))
+    }
+
+    fn fault_in_given(&self, question: &Question) -> Option<String> {
+        let given = [&question.a, &question.b, &question.ids];
+        for (slice, given) in self.slices.iter().zip(given) {
+            if slice[self.shift..] != given[..] {
+                return Some("a lent slice that is only read was changed".into());
+            }
+        }
+        None
+    }
+
+    fn fault_in_answer(&self, call: Call, expected: &Expected) -> Option<String> {
+        let due = expected.as_ref().err().copied().unwrap_or(0);
+        if self.stop != due {
+            return Some("the stops differ".into());
+        }
+        let (order, is, written) = self.slots();
+        let same = match expected {
+            Err(_) => (self.order, self.is, self.written) == (order, is, written),
+            Ok(Answer::Order(order)) => self.order == *order,
+            Ok(Answer::Is(is)) => self.is == u8::from(*is),
+            Ok(Answer::Accepted) => true,
+            Ok(Answer::Wrote(bytes)) => {
+                let length = bytes.bytes.len();
+                return match self.written == length && bytes.is(&self.out()[..length]) {
+                    true => None,
+                    false => Some("the answers differ".into()),
+                };
+            }
+        };
+        match (same, expected) {
+            (true, _) => None,
+            (false, Ok(_)) => Some("the answers differ".into()),
+            (false, Err(_)) => Some(format!("{} changed a slot after its stop", call.name())),
+        }
+    }
+
+    /// What lies behind the answer, or all of the lent buffer after a stop, and the edges.
+    fn fault_in_rest(&self, expected: &Expected) -> Option<String> {
+        let length = match expected {
+            Ok(Answer::Wrote(bytes)) => bytes.bytes.len(),
+            _ => 0,
+        };
+        let (from, pattern) = (self.from(), self.pattern());
+        let is = |places: std::ops::Range<usize>| self.memory[places.clone()] == pattern[places];
+        if !is(from + length..from + self.room) {
+            return Some(match expected {
+                Ok(_) => "the lent buffer was changed behind the answer".into(),
+                Err(_) => "the lent buffer was changed after a stop".into(),
+            });
+        }
+        if !is(0..from) || !is(from + self.room..self.memory.len()) {
+            return Some("memory beside the lent buffer was changed".into());
+        }
+        None
+    }
+
+    /// The answer, as it is told.
+    pub fn told(&self, call: Call) -> String {
+        if self.stop != 0 {
+            return format!("stop {}", self.stop);
+        }
+        match call {
+            Call::Compare | Call::CmpBound => format!("{}", self.order),
+            Call::NonEmpty | Call::Contains => format!("{}", self.is),
+            Call::CheckImage => "accepted".into(),
+            _ => {
+                let shown = &self.out()[..self.written.min(self.room)];
+                let shown = crate::call::hexadecimal(shown);
+                format!("{} bytes: {shown}", self.written)
+            }
+        }
+    }
+}

@@ -1,0 +1,270 @@
+//! The smallest input of a difference: whatever can be left out without losing it is left out.
+use crate::call::{Call, Question};
+use crate::comparison::find;
+use crate::lent::Lent;
+use oracle::checks::{read_image, read_job, read_range, runs_of};
+use oracle::inputs::{image, range_image, write_job};
+use oracle::{key_of, Bound, Job, Key, Range, Run, Table};
+
+/// No more than so many inputs are tried.
+const TRIES: usize = 40_000;
+
+/// What makes an input small: few bytes, then small numbers.
+fn weight(question: &Question) -> (usize, usize, u64, u64) {
+    let slices = [&question.a, &question.b, &question.ids];
+    let sum = slices.into_iter().flatten().map(|byte| u64::from(*byte));
+    let places = question.x.saturating_add(question.y);
+    (question.size(), question.room, places, sum.sum())
+}
+
+pub fn smallest(question: Question, lent: &mut Lent) -> Question {
+    let mut least = question;
+    let mut tries = 0;
+    'smaller: loop {
+        for other in smaller(&least) {
+            tries += 1;
+            if tries > TRIES {
+                return least;
+            }
+            if weight(&other) < weight(&least) && find(&other, lent).is_some() {
+                least = other;
+                continue 'smaller;
+            }
+        }
+        return least;
+    }
+}
+
+/// Inputs that lack something, those that lack much before the others.
+fn smaller(question: &Question) -> Vec<Question> {
+    let mut list = vec![];
+    let on_images = question.call >= Call::CheckImage;
+    let with = |set: &dyn Fn(&mut Question)| {
+        let mut other = question.clone();
+        set(&mut other);
+        other
+    };
+    let as_values = if on_images {
+        smaller_images(&question.a)
+    } else {
+        smaller_ranges(&question.a)
+    };
+    for bytes in as_values {
+        list.push(with(&|other| other.a.clone_from(&bytes)));
+    }
+    let as_values = if question.call == Call::Commit {
+        smaller_jobs(&question.b)
+    } else {
+        smaller_ranges(&question.b)
+    };
+    for bytes in as_values {
+        list.push(with(&|other| other.b.clone_from(&bytes)));
+    }
+    for bytes in smaller_bytes(&question.a) {
+        list.push(with(&|other| other.a.clone_from(&bytes)));
+    }
+    for bytes in smaller_bytes(&question.b) {
+        list.push(with(&|other| other.b.clone_from(&bytes)));
+    }
+    for bytes in smaller_bytes(&question.ids) {
+        list.push(with(&|other| other.ids.clone_from(&bytes)));
+    }
+    for room in [0, question.room / 2, question.room.saturating_sub(1)] {
+        list.push(with(&|other| other.room = room));
+    }
+    for place in [0, question.x / 2] {
+        list.push(with(&|other| other.x = place));
+    }
+    for place in [0, question.y / 2] {
+        list.push(with(&|other| other.y = place));
+    }
+    list
+}
+
+/// Bytes taken out, many at once and then one by one; then bytes made less.
+fn smaller_bytes(bytes: &[u8]) -> Vec<Vec<u8>> {
+    let mut list = vec![];
+    let mut count = bytes.len();
+    while count > 0 {
+        for from in (0..=bytes.len() - count).step_by(count) {
+            list.push([&bytes[..from], &bytes[from + count..]].concat());
+        }
+        // Long buffers in long pieces only, or the list would be too long.
+        if bytes.len() / count > 200 {
+            break;
+        }
+        count /= 2;
+    }
+    if bytes.len() <= 300 {
+        for at in (0..bytes.len()).filter(|at| bytes[*at] != 0) {
+            for value in [0, bytes[at] / 2, bytes[at] - 1] {
+                let mut other = bytes.to_vec();
+                other[at] = value;
+                list.push(other);
+            }
+        }
+    }
+    list
+}
+
+fn smaller_keys(key: &Key) -> Vec<Key> {
+    match key.len() {
+        0 => vec![],
+        1 => vec![vec![]],
+        length => vec![
+            vec![],
+            key[..length / 2].to_vec(),
+            key[..length - 1].to_vec(),
+        ],
+    }
+}
+
+fn smaller_bounds(bound: &Bound) -> Vec<Bound> {
+    let mut list = vec![];
+    if let Some(key) = key_of(bound) {
+        list.push(Bound::Unbounded);
+        list.extend(smaller_keys(key).into_iter().map(|key| match bound {
+            Bound::Included(_) => Bound::Included(key),
+            _ => Bound::Excluded(key),
+        }));
+    }
+    list
+}
+
+fn smaller_of(range: &Range) -> Vec<Range> {
+    let starts = smaller_bounds(&range.0).into_iter();
+    let mut list: Vec<Range> = starts.map(|start| (start, range.1.clone())).collect();
+    let ends = smaller_bounds(&range.1).into_iter();
+    list.extend(ends.map(|end| (range.0.clone(), end)));
+    list
+}
+
+fn smaller_ranges(bytes: &[u8]) -> Vec<Vec<u8>> {
+    let Ok(range) = read_range(bytes) else {
+        return vec![];
+    };
+    smaller_of(&range).iter().map(range_image).collect()
+}
+
+fn smaller_tables(table: &Table) -> Vec<Table> {
+    let mut list = vec![];
+    let mut with = |set: &dyn Fn(&mut Table)| {
+        let mut other = table.clone();
+        set(&mut other);
+        list.push(other);
+    };
+    with(&|table| table.last = None);
+    for key in smaller_keys(&table.first) {
+        with(&|table| table.first.clone_from(&key));
+    }
+    for key in table.last.iter().flat_map(smaller_keys) {
+        with(&|table| table.last = Some(key.clone()));
+    }
+    with(&|table| table.index_offset = 0);
+    with(&|table| table.index_len = 0);
+    with(&|table| table.filter_offset = 0);
+    list
+}
+
+/// Without a part of a list; long lists lose many at once.
+fn without<T: Clone>(list: &[T]) -> Vec<Vec<T>> {
+    let mut lists = vec![];
+    let mut count = list.len();
+    while count > 0 {
+        for from in (0..=list.len() - count).step_by(count) {
+            lists.push([&list[..from], &list[from + count..]].concat());
+        }
+        count /= 2;
+    }
+    lists
+}
+
+fn smaller_images(bytes: &[u8]) -> Vec<Vec<u8>> {
+    let Ok(runs) = read_image(bytes) else {
+        return vec![];
+    };
+    let runs = runs_of(runs);
+    let mut list = without(&runs);
+    let with = |place: usize, run: Run| {
+        let mut other = runs.clone();
+        other[place] = run;
+        other
+    };
+    for (place, run) in runs.iter().enumerate() {
+        for views in without(&run.views) {
+            list.push(with(
+                place,
+                Run {
+                    views,
+                    ..run.clone()
+                },
+            ));
+        }
+    }
+    for (place, run) in runs.iter().enumerate() {
+        let id = Run {
+            id: place as u32,
+            ..run.clone()
+        };
+        list.push(with(place, id));
+        // Of a long run the views themselves stay.
+        for (at, view) in run.views.iter().enumerate().take(20) {
+            let tables = smaller_tables(&view.table).into_iter();
+            let ranges = view.visible.iter().flat_map(smaller_of);
+            let mut views = vec![view.clone()];
+            views[0].visible = None;
+            views.extend(tables.map(|table| oracle::View {
+                table,
+                ..view.clone()
+            }));
+            views.extend(ranges.map(|range| oracle::View {
+                visible: Some(range),
+                ..view.clone()
+            }));
+            for view in views {
+                let mut run = run.clone();
+                run.views[at] = view;
+                list.push(with(place, run));
+            }
+        }
+    }
+    list.iter().map(|runs| image(runs)).collect()
+}
+
+fn smaller_jobs(bytes: &[u8]) -> Vec<Vec<u8>> {
+    let Ok(job) = read_job(bytes) else {
+        return vec![];
+    };
+    let mut list: Vec<Job> = vec![];
+    for parts in without(&job.parts) {
+        list.push(Job {
+            parts,
+            ..job.clone()
+        });
+    }
+    for sources in without(&job.sources) {
+        list.push(Job {
+            sources,
+            ..job.clone()
+        });
+    }
+    for (place, part) in job.parts.iter().enumerate() {
+        let mut with = |set: &dyn Fn(&mut oracle::Part)| {
+            let mut other = job.clone();
+            set(&mut other.parts[place]);
+            list.push(other);
+        };
+        for outputs in without(&part.outputs) {
+            with(&|part| part.outputs.clone_from(&outputs));
+        }
+        for range in smaller_of(&part.range) {
+            with(&|part| part.range.clone_from(&range));
+        }
+        for (at, table) in part.outputs.iter().enumerate().take(20) {
+            for table in smaller_tables(table) {
+                with(&|part| part.outputs[at] = table.clone());
+            }
+        }
+    }
+    list.iter().map(|job| write_job(job).0).collect()
+}

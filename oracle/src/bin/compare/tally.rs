@@ -1,0 +1,93 @@
+//! How many inputs were compared.
+use crate::call::{mixed, Call};
+use std::collections::BTreeMap;
+
+#[derive(Default)]
+pub struct Tally {
+    /// Of each call how many were answered, and how many refused by each stop.
+    calls: BTreeMap<Call, [u64; 17]>,
+    /// Marks of the inputs of range calls, of the images and of the commits.
+    pub ranges: Vec<u64>,
+    pub images: Vec<u64>,
+    pub commits: Vec<u64>,
+    pub listed: u64,
+    /// Lists, and those of them of whose last accepted record demand 3 speaks.
+    pub lists: u64,
+    pub held: u64,
+    /// Of each call the mark of one input, any of them, for the self-test.
+    pub picked: BTreeMap<Call, u64>,
+}
+
+impl Tally {
+    pub fn count(&mut self, call: Call, stop: u8, mark: u64) {
+        self.calls.entry(call).or_insert([0; 17])[usize::from(stop)] += 1;
+        self.pick(call, mark);
+    }
+
+    /// The least by a number that has nothing to do with the order of the inputs.
+    fn pick(&mut self, call: Call, mark: u64) {
+        let picked = self.picked.entry(call).or_insert(mark);
+        if mixed(mark, 7) < mixed(*picked, 7) {
+            *picked = mark;
+        }
+    }
+
+    pub fn add(&mut self, mut more: Tally) {
+        for (call, counts) in more.calls {
+            let all = self.calls.entry(call).or_insert([0; 17]);
+            all.iter_mut()
+                .zip(counts)
+                .for_each(|(all, more)| *all += more);
+        }
+        for (call, mark) in more.picked {
+            self.pick(call, mark);
+        }
+        self.ranges.append(&mut more.ranges);
+        self.images.append(&mut more.images);
+        self.commits.append(&mut more.commits);
+        self.listed += more.listed;
+        self.lists += more.lists;
+        self.held += more.held;
+    }
+
+    pub fn print(mut self) {
+        println!(
+            "{:<26}{:>12}{:>12}  refused by each stop",
+            "call", "inputs", "answered"
+        );
+        for (call, counts) in &self.calls {
+            let all: u64 = counts.iter().sum();
+            let stops = (1..17).filter(|stop| counts[*stop] > 0);
+            let stops: Vec<String> = stops
+                .map(|stop| format!("{stop}: {}", counts[stop]))
+                .collect();
+            let (name, stops) = (call.name(), stops.join(", "));
+            println!("{name:<26}{all:>12}{:>12}  {stops}", counts[0]);
+        }
+        let ranges = distinct(&mut self.ranges);
+        println!(
+            "range calls: {} inputs, {ranges} of them distinct",
+            self.ranges_all()
+        );
+        let (all, images) = (self.images.len(), distinct(&mut self.images));
+        println!("images: {all}, {images} of them distinct");
+        let (all, commits) = (self.commits.len(), distinct(&mut self.commits));
+        println!(
+            "commits: {all}, {commits} of them distinct (whatever the lent buffer); {} of them in \
+             {} lists, {} of them held to demand 3",
+            self.listed, self.lists, self.held
+        );
+    }
+
+    fn ranges_all(&self) -> u64 {
+        let on_ranges = self.calls.iter().filter(|(call, _)| call.is_on_ranges());
+        on_ranges.flat_map(|(_, counts)| counts).sum()
+    }
+}
+
+/// How many different marks there are: at most as many as inputs.
+fn distinct(marks: &mut [u64]) -> usize {
+    marks.sort_unstable();
+    let next = marks.windows(2).filter(|pair| pair[0] != pair[1]);
+    next.count() + usize::from(!marks.is_empty())
+}
