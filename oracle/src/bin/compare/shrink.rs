@@ -5,9 +5,13 @@ use crate::lent::Lent;
 use oracle::checks::{read_image, read_job, read_range, runs_of};
 use oracle::inputs::{image, range_image, write_job};
 use oracle::{key_of, Bound, Job, Key, Range, Run, Table};
+use std::time::Instant;
 
-/// No more than so many inputs are tried.
+/// No more than so many inputs are tried, for no longer than so many seconds.
 const TRIES: usize = 40_000;
+const SECONDS: u64 = 60;
+/// A long list loses no less than one part in so many at once, or there were too much to try.
+const FINEST: usize = 64;
 
 /// What makes an input small: few bytes, then small numbers.
 fn weight(question: &Question) -> (usize, usize, u64, u64) {
@@ -20,10 +24,11 @@ fn weight(question: &Question) -> (usize, usize, u64, u64) {
 pub fn smallest(question: Question, lent: &mut Lent) -> Question {
     let mut least = question;
     let mut tries = 0;
+    let began = Instant::now();
     'smaller: loop {
         for other in smaller(&least) {
             tries += 1;
-            if tries > TRIES {
+            if tries > TRIES || began.elapsed().as_secs() > SECONDS {
                 return least;
             }
             if weight(&other) < weight(&least) && find(&other, lent).is_some() {
@@ -89,8 +94,7 @@ fn smaller_bytes(bytes: &[u8]) -> Vec<Vec<u8>> {
         for from in (0..=bytes.len() - count).step_by(count) {
             list.push([&bytes[..from], &bytes[from + count..]].concat());
         }
-        // Long buffers in long pieces only, or the list would be too long.
-        if bytes.len() / count > 200 {
+        if bytes.len() / count > FINEST {
             break;
         }
         count /= 2;
@@ -166,13 +170,16 @@ fn smaller_tables(table: &Table) -> Vec<Table> {
     list
 }
 
-/// Without a part of a list; long lists lose many at once.
+/// Without a part of a list.
 fn without<T: Clone>(list: &[T]) -> Vec<Vec<T>> {
     let mut lists = vec![];
     let mut count = list.len();
     while count > 0 {
         for from in (0..=list.len() - count).step_by(count) {
             lists.push([&list[..from], &list[from + count..]].concat());
+        }
+        if list.len() / count > FINEST {
+            break;
         }
         count /= 2;
     }
