@@ -1,6 +1,5 @@
 //! Copies the original sources, byte for byte, from SLATEDB_SRC into OUT_DIR and
-//! writes `modules.rs`, which declares them as modules of this crate. For the comparison it
-//! names the archive of the proved library to the linker.
+//! writes `modules.rs`, which declares them as modules of this crate.
 //!
 //! To a copy whose privates are needed, one line is appended *after* the
 //! unchanged text: a child module `oracle_access` (src/access/*.rs). A child
@@ -37,9 +36,6 @@ fn main() {
     let root = here.parent().unwrap();
     let from =
         env::var_os("SLATEDB_SRC").map_or_else(|| root.join("../shared/docs/src"), PathBuf::from);
-    if env::var_os("CARGO_FEATURE_COMPARE").is_some() {
-        link_proved(root);
-    }
     let tree = out.join("slatedb");
     fs::create_dir_all(tree.join("manifest")).unwrap();
 
@@ -78,16 +74,6 @@ fn main() {
     }
     fs::write(out.join("modules.rs"), modules).unwrap();
     println!("cargo:rustc-env=ORACLE_SLATEDB_SRC={}", from.display());
-}
-
-/// The writers of records do without the archive, so only `compare` is linked with it.
-fn link_proved(root: &Path) {
-    println!("cargo:rerun-if-env-changed=BILQARUSH_LIB_DIR");
-    let folder = env::var_os("BILQARUSH_LIB_DIR")
-        .map_or_else(|| root.join("target/staticlib"), PathBuf::from);
-    let archive = folder.join("libbilqarush_c.a");
-    println!("cargo:rerun-if-changed={}", archive.display());
-    println!("cargo:rustc-link-arg-bin=compare={}", archive.display());
 }
 
 /// Finds an original under its seed name (`src--src--x.rs.txt`) or its own

@@ -1,55 +1,7 @@
 //! The proved library's calls, by its C interface: a slice is a pointer and a length, and the
 //! number of a stop is returned, 0 if none.
+use bilqarush::raw::*;
 use oracle::direct::Checked;
-
-extern "C" {
-    fn bilqarush_compare(
-        a: *const u8,
-        a_len: usize,
-        b: *const u8,
-        b_len: usize,
-        order: *mut i8,
-    ) -> u8;
-    fn bilqarush_cmp_bound(
-        a_kind: u8,
-        a: *const u8,
-        a_len: usize,
-        b_kind: u8,
-        b: *const u8,
-        b_len: usize,
-        start: bool,
-        order: *mut i8,
-    ) -> u8;
-    fn bilqarush_non_empty(range: *const u8, range_len: usize, is: *mut bool) -> u8;
-    fn bilqarush_contains(
-        range: *const u8,
-        range_len: usize,
-        key: *const u8,
-        key_len: usize,
-        is: *mut bool,
-    ) -> u8;
-    fn bilqarush_check_image(image: *const u8, image_len: usize) -> u8;
-    fn bilqarush_compacted_effective_range(
-        image: *const u8,
-        image_len: usize,
-        run: usize,
-        view: usize,
-        out: *mut u8,
-        out_len: usize,
-        written: *mut usize,
-    ) -> u8;
-    fn bilqarush_commit(
-        image: *const u8,
-        image_len: usize,
-        job: *const u8,
-        job_len: usize,
-        ids: *const u8,
-        ids_len: usize,
-        out: *mut u8,
-        out_len: usize,
-        written: *mut usize,
-    ) -> u8;
-}
 
 fn answered<T>(stop: u8, answer: T) -> Checked<T> {
     if stop == 0 {
@@ -152,15 +104,6 @@ pub fn commit(image: &[u8], job: &[u8], ids: &[u8], out: &mut [u8]) -> Checked<u
 macro_rules! writers {
     (one $($name:ident $symbol:ident),*) => {$(
         pub fn $name(a: &[u8], out: &mut [u8]) -> Checked<usize> {
-            extern "C" {
-                fn $symbol(
-                    a: *const u8,
-                    a_len: usize,
-                    out: *mut u8,
-                    out_len: usize,
-                    written: *mut usize,
-                ) -> u8;
-            }
             let mut written = 0;
             let stop = unsafe {
                 $symbol(a.as_ptr(), a.len(), out.as_mut_ptr(), out.len(), &mut written)
@@ -170,17 +113,6 @@ macro_rules! writers {
     )*};
     (two $($name:ident $symbol:ident),*) => {$(
         pub fn $name(a: &[u8], b: &[u8], out: &mut [u8]) -> Checked<usize> {
-            extern "C" {
-                fn $symbol(
-                    a: *const u8,
-                    a_len: usize,
-                    b: *const u8,
-                    b_len: usize,
-                    out: *mut u8,
-                    out_len: usize,
-                    written: *mut usize,
-                ) -> u8;
-            }
             let mut written = 0;
             let stop = unsafe {
                 $symbol(

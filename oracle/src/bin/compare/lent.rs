@@ -1,9 +1,9 @@
 //! Asks the proved library. Every lent byte, and bytes on both sides of the lent buffer, hold a
 //! pattern that differs from call to call, so that a change of any of them is seen.
-use crate::abi::*;
 use crate::answer::{Answer, Expected};
 use crate::call::{Call, Question};
 use crate::wrong::Wrong;
+use bilqarush::raw::*;
 use oracle::inputs::Chance;
 
 /// Bytes before and after the lent buffer.
@@ -99,7 +99,9 @@ impl Lent {
         let (from, room) = (self.from(), self.room);
         let out = self.memory[from..].as_mut_ptr();
         let (x, y) = (question.x, question.y);
-        let (order, is, written) = (&mut self.order, &mut self.is, &mut self.written);
+        let (order, written) = (&mut self.order, &mut self.written);
+        // A byte, so that the comparison sees every bit of the `bool`.
+        let is = std::ptr::from_mut(&mut self.is).cast();
         // SAFETY: each pointer is valid for its length, and the slots are this struct's.
         self.stop = unsafe {
             match question.call {

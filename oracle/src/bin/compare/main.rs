@@ -3,7 +3,6 @@
 //!
 //!     compare [quick] [SEED]
 //!     compare --self-test [SEED]
-mod abi;
 mod answer;
 mod call;
 mod commits;
