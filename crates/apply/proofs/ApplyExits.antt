@@ -21,7 +21,7 @@ use Rattle.incremental_progress.specs.Parts.{intervals}
 use Rattle.incremental_progress.specs.Draws.{Drawn, used-up, supply}
 use Rattle.incremental_progress.specs.Draws as draws
 use Rattle.incremental_progress.specs.Gaps.{gaps, gapCommit}
-use Rattle.incremental_progress.specs.Commit.{drawnOr, resultFits}
+use Rattle.incremental_progress.specs.Commit.{drawnOr, resultFits, drawnImage}
 use Rattle.drawn.specs.Supply.{isDrawn}
 use Rattle.progress.specs.Spans.{jobIn, GapsFound}
 use Rattle.progress.specs.Tables.{gapsIn, Table}
@@ -78,7 +78,7 @@ pub ruleset write-exits = (ready-inputs, ready-there, ready-task, ready-bytes, r
 module _ (d : Drawn Image) (out : List ℕ) {w : ImageSized} (f : ImageSizedFound d w) where
   module _ (e : w ≡ SizedUsedUp) where
     used : drawnOutcome d (length out) ≡ stop 14
-    unfolding drawnOutcome
+    unfolding drawnOutcome drawnImage
     used = rw (sized-used d (rw e at f))
 
     pub draws-used : Stop 14 ≡ reported (drawnOutcome d (length out))
@@ -101,7 +101,7 @@ module _ (d : Drawn Image) (out : List ℕ) {w : ImageSized} (f : ImageSizedFoun
     draws-size = made .size ∙ ap (λ (x : Drawn Image). length (image .write (imageOf x))) (sym (made .is))
 
     opened : drawnOutcome d (length out) ≡ andThen (check 15 (fits && leb bytes 65536) (answer (imageOf d))) (λ new. writtenTo (length out) (image .write new))
-    unfolding drawnOutcome resultFits
+    unfolding drawnOutcome drawnImage resultFits
     opened = rw (made .is, ← (made .fit), ← (made .size))
 
     too-large : fits && leb bytes 65536 ≡ false → drawnOutcome d (length out) ≡ stop 15

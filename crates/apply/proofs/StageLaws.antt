@@ -6,12 +6,12 @@ use mathlib.Core.Path.{_≡_, refl, sym, ap, _∙_}
 use mathlib.Core.Bool.{Bool, true, false}
 use mathlib.Core.List.{List, [], _∷_}
 use Rattle.base.specs.Pick.{pick}
-use Rattle.base.specs.Outcome.{Outcome, stop, answer, check, andThen, writtenTo}
+use Rattle.base.specs.Outcome.{Outcome, stop, check, andThen, writtenTo}
 use Rattle.comparable_range.specs.Range.{Range, nonEmpty}
 use Rattle.records.specs.Values.{View, Image, Job}
 use Rattle.records.specs.Layouts.{image}
 use Rattle.manifest.specs.Ranges.{effective}
-use Rattle.manifest.specs.Checks.{checked, joined, imageChecks, jobChecks, tablePasses}
+use Rattle.manifest.specs.Checks.{tablePasses}
 use Rattle.manifest.specs.Laws.{StartsHeld}
 use Rattle.manifest.proofs.ViewRanges.{effective-start-is-held}
 use Rattle.incremental_progress.specs.Intervals.{cutOut}
@@ -19,7 +19,7 @@ use Rattle.incremental_progress.specs.Parts.{intervals}
 use Rattle.incremental_progress.specs.Checks.{destinationIsSource, sourcesThere, plannedInOrder, outputsInOrder, outputViewsCovered, retainedMeet}
 use Rattle.incremental_progress.specs.Draws.{supply, fillCommit}
 use Rattle.incremental_progress.specs.Gaps.{gaps, pieces, gapCommit}
-use Rattle.incremental_progress.specs.Commit.{drawnOr, resultFits, committed}
+use Rattle.incremental_progress.specs.Commit.{drawnImage, jobChecked, applied}
 use Rattle.incremental_progress.specs.Laws.{JobPasses}
 use Rattle.incremental_progress.proofs.Checks.{Checked, job-parts}
 use Rattle.incremental_progress.proofs.ByGaps.{pieces-by-gaps, effective-passes}
@@ -28,12 +28,7 @@ use Rattle.incremental_progress.proofs.ProgressLaws.{retained-always-meets}
 use Rattle.output_views.specs.Covered.{coveredBy}
 use Rattle.output_views.proofs.ByGaps.{covered-by-gaps}
 use Rattle.compactor_state.specs.Faults.{progressFault}
-use Rattle.apply.specs.Stages.{Passed, applied, appliedOutcome, drawnOutcome, coveredOutcome}
-
--- a commit is its checks 4 to 7, and then what is applied
-pub committed-is : (i : Image) (j : Job) (ids : List ℕ) → committed i j ids ≡ checked (joined (imageChecks i) (jobChecks j)) (applied i j ids)
-unfolding committed applied
-committed-is i j ids = refl
+use Rattle.apply.specs.Stages.{Passed, appliedOutcome, drawnOutcome, coveredOutcome}
 
 -- ---- the checks 8 to 11
 record Four (a b c d : Bool) : Type 0 where
@@ -58,7 +53,7 @@ no-fault false b c d h = absurd (omega arith)
 
 module _ (i : Image) (j : Job) (ids : List ℕ) (room : ℕ) where
   pub fault-stops : progressFault i j < 12 → appliedOutcome i j ids room ≡ stop (progressFault i j)
-  unfolding appliedOutcome applied progressFault
+  unfolding appliedOutcome applied jobChecked progressFault
   fault-stops h = ap (λ o. andThen o (λ new. writtenTo room (image .write new))) (first-fault (destinationIsSource j) (sourcesThere i j) (plannedInOrder j) (outputsInOrder j) _ h)
 
   module _ (p : Passed i j) (h : 12 ≤ progressFault i j) where
@@ -78,13 +73,13 @@ module _ (i : Image) (j : Job) (ids : List ℕ) (room : ℕ) where
     covered-is = covered-by-gaps (gaps (intervals (j .parts))) j pieces-are i (p .tables)
 
     pub stages-are : (gs : List Range) → gs ≡ gaps (intervals (j .parts)) → appliedOutcome i j ids room ≡ coveredOutcome gs i j ids room
-    unfolding appliedOutcome applied coveredOutcome drawnOutcome
+    unfolding appliedOutcome applied jobChecked coveredOutcome drawnOutcome
     stages-are gs e =
         rw (e, covered-is, all-four .one, all-four .two, all-four .three, all-four .four, retained-always-meets i j (p .tables))
         (go (outputViewsCovered i j) refl)
       where
         go : (b : Bool) → outputViewsCovered i j ≡ b
-            → andThen (check 12 b (andThen (drawnOr (fillCommit j i (supply ids))) (λ new. check 15 (resultFits new) (answer new)))) (λ new. writtenTo room (image .write new))
-            ≡ check 12 b (andThen (andThen (drawnOr (gapCommit j i (supply ids))) (λ new. check 15 (resultFits new) (answer new))) (λ new. writtenTo room (image .write new)))
+            → andThen (check 12 b (drawnImage (fillCommit j i (supply ids)))) (λ new. writtenTo room (image .write new))
+            ≡ check 12 b (andThen (drawnImage (gapCommit j i (supply ids))) (λ new. writtenTo room (image .write new)))
         go true c = rw (commit-by-gaps i j (record { tables = p .tables; order = p .order; job = job-passes; covered = c }) (supply ids))
         go false c = refl

@@ -6,23 +6,22 @@ use mathlib.Core.List.{List, []}
 use lib.Dec.{T}
 use lib.ListN.{length}
 use Rattle.base.specs.Bytes.{Bytes}
-use Rattle.base.specs.Outcome.{Outcome, answer, check, andThen, writtenTo}
+use Rattle.base.specs.Outcome.{Outcome, check, andThen, writtenTo}
 use Rattle.comparable_range.specs.Range.{Range}
 use Rattle.records.specs.Values.{Image, Job}
 use Rattle.records.specs.Found.{isGot, valuesOf}
 use Rattle.records.specs.Layouts.{image, job}
 use Rattle.manifest.specs.Checks.{imageChecks, jobChecks}
-use Rattle.incremental_progress.specs.Checks.{destinationIsSource, sourcesThere, plannedInOrder, outputsInOrder, outputViewsCovered, retainedMeet}
-use Rattle.incremental_progress.specs.Draws.{Drawn, used-up, got, supply, fillCommit}
+use Rattle.incremental_progress.specs.Draws.{Drawn, supply}
 use Rattle.incremental_progress.specs.Parts.{intervals}
 use Rattle.incremental_progress.specs.Gaps.{gaps, gapCommit}
 use Rattle.progress.specs.Spans.{jobIn}
 use Rattle.progress.specs.Tables.{gapsIn}
 use Rattle.pieces.specs.Held.{Inputs}
-use Rattle.incremental_progress.specs.Commit.{drawnOr, resultFits}
+use Rattle.incremental_progress.specs.Commit.{drawnImage, applied}
 use Rattle.output_views.specs.Covered.{coveredBy}
 
--- the checks 4 and 7 that the stages lean on
+-- what the stages lean on: the image passed 5 and 6, the job 4 and 5
 pub record Passed (i : Image) (j : Job) : Type 0 where
   pub tables : imageChecks i .tables ≡ true
   pub order : imageChecks i .order ≡ true
@@ -47,23 +46,13 @@ pub record Ready (given task gap-table : List ℕ) (m : ℕ) : Type 0 where
   pub bytes-task : Bytes task
   pub gaps-are : gapsIn task m gap-table ≡ gaps (intervals (jobIn (job .read task) .parts))
 
--- from check 8 on
-unfoldable pub applied : Image → Job → List ℕ → Outcome Image
-applied i j ids =
-    check 8 (destinationIsSource j)
-    (check 9 (sourcesThere i j)
-    (check 10 (plannedInOrder j)
-    (check 11 (outputsInOrder j)
-    (check 12 (outputViewsCovered i j)
-    (check 13 (retainedMeet i j)
-    (andThen (drawnOr (fillCommit j i (supply ids))) (λ new. check 15 (resultFits new) (answer new))))))))
-
+-- from check 8 on, into a buffer of `room` bytes
 unfoldable pub appliedOutcome : Image → Job → List ℕ → ℕ → Outcome (List ℕ)
 appliedOutcome i j ids room = andThen (applied i j ids) (λ new. writtenTo room (image .write new))
 
 -- from check 14 on
 unfoldable pub drawnOutcome : Drawn Image → ℕ → Outcome (List ℕ)
-drawnOutcome d room = andThen (andThen (drawnOr d) (λ new. check 15 (resultFits new) (answer new))) (λ new. writtenTo room (image .write new))
+drawnOutcome d room = andThen (drawnImage d) (λ new. writtenTo room (image .write new))
 
 -- from check 12 on, by gaps
 unfoldable pub coveredOutcome : List Range → Image → Job → List ℕ → ℕ → Outcome (List ℕ)

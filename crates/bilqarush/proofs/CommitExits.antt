@@ -27,9 +27,8 @@ use Rattle.manifest.specs.declared.images.Judged.the-variants.{At as JudgedAt, 
 use Rattle.manifest.proofs.Steps.{least-joined, fault-stops, fault-passes}
 use Rattle.manifest.proofs.Given.{Whole, whole-read, Numbered, numbered, stopped-is}
 use Rattle.progress.specs.Spans.{jobIn}
-use Rattle.incremental_progress.specs.Commit.{committed, commitOutcome}
-use Rattle.apply.specs.Stages.{Passed, Read, applied, appliedOutcome}
-use Rattle.apply.proofs.StageLaws.{committed-is}
+use Rattle.incremental_progress.specs.Commit.{applied, committed, commitOutcome}
+use Rattle.apply.specs.Stages.{Passed, Read, appliedOutcome}
 
 -- no check fails where the number is 8
 record AllPass (c : Checks) : Type 0 where
@@ -104,8 +103,8 @@ module _ (s t ids out : List ℕ) {w : Judged} (x : JudgedWhole s imageChecks (w
       fault-both = sym (least-joined (imageChecks i) (jobChecks j)) ∙ rw (← (the-image .fault-is), ← (the-job .fault-is))
 
       opened : commitOutcome s t ids (length out) ≡ andThen (checked both-checks (applied i j ids)) (λ new. writtenTo (length out) (image .write new))
-      unfolding commitOutcome both-checks i j
-      opened = rw (the-image .is, the-job .is, committed-is (the-image .value) (the-job .value) ids)
+      unfolding commitOutcome committed both-checks i j
+      opened = rw (the-image .is, the-job .is)
 
       refused : least a b < 8 → commitOutcome s t ids (length out) ≡ outcome.stop (least a b)
       refused h = opened ∙ ap (λ o. andThen o (λ new. writtenTo (length out) (image .write new))) (fault-stops both-checks (applied i j ids) (rw fault-both h)) ∙ ap outcome.stop fault-both

@@ -11,7 +11,8 @@ use Rattle.format.specs.Range.{writeRange}
 use Rattle.records.specs.Form.{writeMany}
 use Rattle.records.specs.Values.{View}
 use Rattle.records.specs.Layouts.{table, view}
-use Rattle.incremental_progress.specs.Draws.{Ten, Entry, whole, cut, Drawn, used-up, got, supply, next, draw, drawnView, fillAll}
+use Rattle.incremental_progress.specs.Draws.{Ten, Drawn, used-up, got, supply, next, draw, drawnView, fillAll}
+use Rattle.incremental_progress.specs.Entries.{Entry, whole, cut}
 use Rattle.incremental_progress.proofs.FilledViews.{fill-append}
 use Rattle.drawn.specs.Bytes.{cutBytes, tableBytes}
 use Rattle.drawn.specs.Supply.{viewBytes, SizedFound}

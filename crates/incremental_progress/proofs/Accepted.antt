@@ -24,7 +24,8 @@ use Rattle.incremental_progress.specs.Intervals.{Interval, listed, partB
 use Rattle.incremental_progress.specs.Views.{sameRange}
 use Rattle.incremental_progress.specs.Parts.{isKey, durable, intervals, identity, openKey}
 use Rattle.incremental_progress.specs.Checks.{destinationIsSource, retainedMeets, retainedMeet}
-use Rattle.incremental_progress.specs.Draws.{Entry, whole, cut, Ten, draw, fill, fillCommit, supply, pieceEntry, viewEntries, outputEntries, partEntries}
+use Rattle.incremental_progress.specs.Draws.{Ten, draw, fill, fillCommit, supply}
+use Rattle.incremental_progress.specs.Entries.{Entry, whole, cut, pieceEntry, viewEntries, outputEntries, partEntries}
 use Rattle.incremental_progress.specs.NewImages.{AcceptedImagePassesAgain}
 use Rattle.incremental_progress.proofs.Lists.{All, All-map, All-of, All-both, All-append, All-flatMap, All-mapped}
 use Rattle.incremental_progress.proofs.Checks.{all-each}

@@ -18,7 +18,7 @@ use Rattle.manifest.specs.Checks.{all, keysInOrder, tablePasses, jobChecks}
 use Rattle.manifest.proofs.ViewRanges.{startsPlain, meets-alone, effective-start-is-held}
 use Rattle.incremental_progress.specs.Parts.{plannedInterval, durable, intervals}
 use Rattle.incremental_progress.specs.Checks.{plannedFrom, plannedInOrder, outputsInside, outputsInOrder}
-use Rattle.incremental_progress.specs.Draws.{viewEntries, runEntries}
+use Rattle.incremental_progress.specs.Entries.{viewEntries, runEntries}
 use Rattle.incremental_progress.specs.Gaps.{void, gapTo, lastGap, gapFrom, gapsFrom, gaps, pieces, gapEntries}
 use Rattle.incremental_progress.proofs.Lists.{All-map, flatMap-append, flatMap-alike, map-append}
 use Rattle.incremental_progress.proofs.Span.{Span, keep, until, since, less, keep-none, keep-some, less-keep, keep-crossed, later-later, sooner-sooner′}

@@ -22,7 +22,7 @@ use Rattle.manifest.specs.Ranges.{lastBound, own, effective, cutBy}
 use Rattle.incremental_progress.specs.Intervals.{Interval, listed, partBefore, partFrom, subtractFrom, cutOut, startBound, endBound, toRange}
 use Rattle.incremental_progress.specs.Parts.{plannedInterval, keyOf, lastWritten, isKey, upToKey, durable, intervals, identity, openKey}
 use Rattle.incremental_progress.specs.Views.{sameRange}
-use Rattle.incremental_progress.specs.Draws.{Entry, whole, cut, pieceEntry, viewEntries, outputEntries, partEntries}
+use Rattle.incremental_progress.specs.Entries.{Entry, whole, cut, pieceEntry, viewEntries, outputEntries, partEntries}
 use Rattle.incremental_progress.proofs.Lists.{All, All-map, All-append, All-flatMap, All-mapped}
 
 -- ---- lists

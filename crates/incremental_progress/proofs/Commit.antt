@@ -15,10 +15,11 @@ use Rattle.records.specs.Values.{Table, View, Part, Run, Image, Job}
 use Rattle.manifest.specs.Ranges.{effective}
 use Rattle.manifest.specs.Checks.{has}
 use Rattle.incremental_progress.specs.Intervals.{anyHolds, bit}
-use Rattle.incremental_progress.specs.Views.{start, cutRun, cutDestination, shown}
-use Rattle.incremental_progress.specs.Parts.{intervals, published, listedIn}
-use Rattle.incremental_progress.specs.Jobs.{isOutput, others, commitViews, commitRuns, LaterJob, expected}
-use Rattle.incremental_progress.specs.Values.{beside}
+use Rattle.incremental_progress.specs.Views.{start, shown}
+use Rattle.incremental_progress.proofs.Marked.{cutRun, cutDestination, published, markedViews, markedRuns}
+use Rattle.incremental_progress.specs.Parts.{intervals, listedIn}
+use Rattle.incremental_progress.specs.Jobs.{isOutput, others, LaterJob, expected}
+use Rattle.incremental_progress.proofs.Values.{beside}
 use Rattle.incremental_progress.proofs.Lists.{All, All-map, All-both, All-unmapped, map-alike}
 use Rattle.incremental_progress.proofs.Sort.{Sorted}
 use Rattle.incremental_progress.proofs.Cutting.{Proper, Grown, later-proper, grown-within}
@@ -67,8 +68,8 @@ pub sound : {ps : List Part} → Planned below ps → All Sound (intervals ps)
 sound {ps} a = All-unmapped Proper spanOf (intervals ps) (later-proper (intervals-self a))
 
 pub commit-ideal : (j : Job) → Parts j → (n : ℕ) (vs : List View) → All Sane vs → (eqb n (j .destination) ≡ true → Replaced j vs)
-    → commitViews j n vs ≡ idealViews j n vs
-unfolding commitViews cutDestination
+    → markedViews j n vs ≡ idealViews j n vs
+unfolding markedViews cutDestination
 commit-ideal j a n vs s r = go (eqb n (j .destination)) refl
   where
     go : (b : Bool) → eqb n (j .destination) ≡ b
@@ -122,8 +123,8 @@ pub record Passes (j : Job) (runs : Image) : Type 0 where
   pub ordered : All Ordered runs
   pub replaced : All (λ r. eqb (r .id) (j .destination) ≡ true → Replaced j (r .views)) runs
 
-pub commit-is-ideal : (j : Job) (runs : Image) → Passes j runs → commitRuns j runs ≡ ideal j runs
-unfolding commitRuns
+pub commit-is-ideal : (j : Job) (runs : Image) → Passes j runs → markedRuns j runs ≡ ideal j runs
+unfolding markedRuns
 commit-is-ideal j runs p =
     map-alike _ _ runs
     (All-both (λ r o c. λ i. record { id = r .id; views = commit-ideal j (p .parts) (r .id) (r .views) (o .sane) c i }) runs (p .ordered) (p .replaced))
@@ -191,19 +192,19 @@ passes-earlier i j runs l p q =
 -- ---- a list of commits, refused ones included: the first image, the image after it, and the last accepted record
 pub data Commits (first : Image) : Image → Option Job → Type 0 where
   no-commit : Commits first first none
-  first-accepted : {runs : Image} (j : Job) → Commits first runs none → Passes j runs → Commits first (commitRuns j runs) (some j)
-  later-accepted : {runs : Image} (i j : Job) → Commits first runs (some i) → Passes j runs → LaterJob i j → Commits first (commitRuns j runs) (some j)
+  first-accepted : {runs : Image} (j : Job) → Commits first runs none → Passes j runs → Commits first (markedRuns j runs) (some j)
+  later-accepted : {runs : Image} (i j : Job) → Commits first runs (some i) → Passes j runs → LaterJob i j → Commits first (markedRuns j runs) (some j)
 
 -- the image is what the last accepted record makes of the first image, on which it passes
 abbrev pub Standing : Image → Image → Option Job → Type 0
 Standing first runs none = runs ≡ first
-Standing first runs (some j) = (runs ≡ commitRuns j first) × Passes j first
+Standing first runs (some j) = (runs ≡ markedRuns j first) × Passes j first
 
 pub standing : {first runs : Image} {o : Option Job} → Commits first runs o → Standing first runs o
 standing no-commit = refl
 standing (first-accepted {runs} j c p) =
     let e = standing c in
-    (ap (commitRuns j) e, rw e at p)
+    (ap (markedRuns j) e, rw e at p)
 standing {first} (later-accepted {runs} i j c p l) =
     let h : Standing first runs (some i) = standing c in
     let e : runs ≡ ideal i first = h .0 ∙ commit-is-ideal i first (h .1) in
@@ -216,12 +217,12 @@ pub none-accepted : {first runs : Image} → Commits first runs none → runs �
 none-accepted c = standing c
 
 -- The image after the list is the one that the last accepted record, committed alone, makes of the first image.
-pub as-if-alone : {first runs : Image} (j : Job) → Commits first runs (some j) → runs ≡ commitRuns j first
+pub as-if-alone : {first runs : Image} (j : Job) → Commits first runs (some j) → runs ≡ markedRuns j first
 as-if-alone j c = standing c .0
 
 -- A record that passes shows of each run each key, through the tables of each kind, as often as expected.
 pub commit-shown : (j : Job) (runs : Image) → Passes j runs → (q : Table → Bool) (x : Key)
-    → map (λ (r : Run). shown q x (r .views)) (commitRuns j runs) ≡ map (λ (r : Run). expected j (r .id) q x (shown q x (r .views))) runs
+    → map (λ (r : Run). shown q x (r .views)) (markedRuns j runs) ≡ map (λ (r : Run). expected j (r .id) q x (shown q x (r .views))) runs
 commit-shown j runs p q x = rw (commit-is-ideal j runs p) (go runs (p .ordered))
   where
     go : (runs : Image) → All Ordered runs
@@ -234,17 +235,17 @@ pub shows-as-expected : {first runs : Image} (j : Job) → Commits first runs (s
 shows-as-expected {first} j c q x = let h = standing c in ap (map (λ (r : Run). shown q x (r .views))) (h .0) ∙ commit-shown j first (h .1) q x
 
 -- A commit keeps the runs, and leaves those beside the job untouched.
-pub commit-ids : (j : Job) (runs : Image) → map (λ (r : Run). r .id) (commitRuns j runs) ≡ map (λ (r : Run). r .id) runs
-unfolding commitRuns
+pub commit-ids : (j : Job) (runs : Image) → map (λ (r : Run). r .id) (markedRuns j runs) ≡ map (λ (r : Run). r .id) runs
+unfolding markedRuns
 commit-ids j [] = refl
 commit-ids j (r ∷ runs) = rw (commit-ids j runs)
 
-pub commit-beside : (j : Job) (runs : Image) → map (beside j) (commitRuns j runs) ≡ map (beside j) runs
-unfolding commitRuns commitViews
+pub commit-beside : (j : Job) (runs : Image) → map (beside j) (markedRuns j runs) ≡ map (beside j) runs
+unfolding markedRuns markedViews
 commit-beside j [] = refl
 commit-beside j (r ∷ runs) = rw (one r, commit-beside j runs)
   where
-    one : (r : Run) → beside j (record { id = r .id; views = commitViews j (r .id) (r .views) }) ≡ beside j r
+    one : (r : Run) → beside j (record { id = r .id; views = markedViews j (r .id) (r .views) }) ≡ beside j r
     one r = kept (eqb (r .id) (j .destination)) (has (r .id) (j .sources))
       where
         kept : (d m : Bool)

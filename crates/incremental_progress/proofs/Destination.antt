@@ -14,7 +14,8 @@ use Rattle.records.specs.Values.{Table, View}
 use Rattle.manifest.specs.Ranges.{effective}
 use Rattle.incremental_progress.specs.Intervals.{Interval, cutOut, anyHolds}
 use Rattle.incremental_progress.specs.Sort.{insert, sort}
-use Rattle.incremental_progress.specs.Views.{start, piece, retained, cutRun, cutDestination, shown}
+use Rattle.incremental_progress.specs.Views.{start, shown}
+use Rattle.incremental_progress.proofs.Marked.{piece, retained, cutRun, cutDestination}
 use Rattle.incremental_progress.proofs.Lists.{All, All-map, All-of, All-mapped, All-unmapped, All-both, All-flatMap, All-forall, Pairwise, Pairwise-append, Pairwise-all, Pairwise-map, flatMap-append, flatMap-none}
 use Rattle.incremental_progress.proofs.Sort.{at, eq-cut, eq-cut-before, eq-cut-after, Sorted, at-none, Untied, sort-between, insert-first, insert-next}
 use Rattle.incremental_progress.proofs.Cutting.{Grown}

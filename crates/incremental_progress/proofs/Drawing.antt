@@ -17,9 +17,11 @@ use Rattle.incremental_progress.specs.Sort.{sort}
 use Rattle.incremental_progress.specs.Views.{start}
 use Rattle.incremental_progress.specs.Parts.{intervals}
 use Rattle.incremental_progress.specs.Jobs.{isOutput, others}
-use Rattle.incremental_progress.specs.Draws.{Entry, Ten, tens, supply, Drawn, used-up, got, next, isOld, draw, fill, fillAll, fillViews, fillRuns, fillCommit, viewEntries, runEntries, partEntries}
+use Rattle.incremental_progress.specs.Draws.{Ten, tens, supply, Drawn, used-up, got, next, isOld, draw, fill, fillAll, fillViews, fillRuns, fillCommit}
+use Rattle.incremental_progress.specs.Entries.{Entry, viewEntries, runEntries, partEntries}
 use Rattle.incremental_progress.proofs.Lists.{All, All-append, All-flatMap}
 use Rattle.incremental_progress.proofs.Sort.{All-sort}
+use Rattle.incremental_progress.proofs.NewRuns.{fill-by-kind}
 
 -- ---- the supply: each draw has ten bytes
 abbrev pub IsTen : Ten → Type 0
@@ -86,8 +88,7 @@ module _ (H : View → Type 0) (E : Entry → Type 0) (fill-keeps : (e : Entry) 
     entries-of vs a = All-flatMap (λ v. All E (viewEntries (intervals (j .parts)) v)) E _ (λ v h. h) vs a
 
     fillViews-keeps : (outs : List View) (r : Run) (s : List Ten) → All H outs → Ready r → All IsTen s → Of (All H) (fillViews j outs (r .id) (r .views) s)
-    unfolding fillViews
-    fillViews-keeps outs r s o h t = go (eqb (r .id) (j .destination)) (has (r .id) (j .sources)) refl refl
+    fillViews-keeps outs r s o h t = rw fill-by-kind (go (eqb (r .id) (j .destination)) (has (r .id) (j .sources)) refl refl)
       where
         -- the entries of the whole run, and of what the destination keeps
         entries : List Entry

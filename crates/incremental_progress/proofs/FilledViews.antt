@@ -11,7 +11,9 @@ use Rattle.manifest.specs.Ranges.{effective}
 use Rattle.incremental_progress.specs.Views.{start}
 use Rattle.incremental_progress.specs.Intervals.{Interval, listed}
 use Rattle.incremental_progress.specs.Parts.{durable, intervals, openKey}
-use Rattle.incremental_progress.specs.Draws.{Entry, whole, cut, marked, outputEntries, partEntries, Ten, Drawn, used-up, got, next, draw, drawnView, fill, fillAll}
+use Rattle.incremental_progress.specs.Draws.{Ten, Drawn, used-up, got, next, draw, drawnView, fill, fillAll}
+use Rattle.incremental_progress.specs.Entries.{Entry, whole, cut, outputEntries, partEntries}
+use Rattle.incremental_progress.proofs.Marked.{marked}
 use Rattle.incremental_progress.specs.Gaps.{ofInterval, fillParts}
 use Rattle.incremental_progress.proofs.Filling.{through}
 

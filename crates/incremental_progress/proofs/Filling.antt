@@ -2,7 +2,7 @@
 -- Assumes nothing.
 use Prim.Native.Nat.{ℕ}
 use native.Mathlib.Omega.{arith}
-use mathlib.Core.Path.{_≡_, refl, _∙_}
+use mathlib.Core.Path.{_≡_, refl, sym, _∙_}
 use mathlib.Core.Bool.{Bool, true, false}
 use mathlib.Core.Option.{Option, none, some}
 use mathlib.Core.List.{List, [], _∷_, _++_, map, flatMap}
@@ -11,58 +11,43 @@ use lib.ListN.{length, take}
 use Rattle.base.specs.Pick.{pick}
 use Rattle.key.specs.Order.{Key}
 use Rattle.comparable_range.specs.Range.{Range, nonEmpty, overlap}
-use Rattle.records.specs.Values.{Table, View, Image, Part, Job}
+use Rattle.comparable_range.specs.Cut.{cutAtMost}
+use Rattle.records.specs.Values.{Table, View, Run, Image, Part, Job}
 use Rattle.manifest.specs.Ranges.{own, effective}
 use Rattle.manifest.specs.Checks.{has}
 use Rattle.incremental_progress.specs.Intervals.{Interval, listed, toRange, cutOut}
-use Rattle.incremental_progress.specs.Sort.{sort}
-use Rattle.incremental_progress.specs.Views.{start, sameRange, cutView, piece, retained, cutRun, cutDestination}
-use Rattle.incremental_progress.specs.Parts.{isKey, durable, intervals, identity, publish, openKey, published}
-use Rattle.incremental_progress.specs.Jobs.{isOutput, others, commitViews, commitRuns}
-use Rattle.incremental_progress.specs.Draws.{Entry, whole, cut, marked, pieceEntry, viewEntries, runEntries, outputEntries, partEntries, Ten, Drawn, used-up, got, next, draw, drawnView, fill, fillAll, fillViews, fillRuns, fillCommit}
-use Rattle.incremental_progress.specs.Ids.{Fills, kept, drawn, Each, no-more, and, same-id, FillsImage, Closed, AllClosed, none-left, one-more, ClosedImage, one-run}
-use Rattle.incremental_progress.specs.Laws.{FullTables, no-tables, one-table, FullParts, no-parts, one-part, CommitFills}
+use Rattle.incremental_progress.specs.Sort.{insert, sort}
+use Rattle.incremental_progress.specs.Views.{start, sameRange}
+use Rattle.incremental_progress.proofs.Marked.{cutView, piece, retained, cutRun, cutDestination, publish, published, markedViews, markedRuns, marked, Fills, kept, drawn, Each, no-more, and, same-id, FillsImage, Closed, AllClosed, none-left, one-more, ClosedImage, no-runs, one-run, FullTables, no-tables, one-table, FullParts, no-parts, one-part}
+use Rattle.incremental_progress.specs.Parts.{isKey, durable, intervals, identity, openKey}
+use Rattle.incremental_progress.specs.Jobs.{isOutput, others, leftEntries, newRun, OpenRun, commitRuns}
+use Rattle.incremental_progress.specs.Draws.{Ten, Drawn, used-up, got, next, draw, drawnView, fill, fillAll, fillViews, fillRuns, fillCommit}
+use Rattle.incremental_progress.specs.Entries.{Entry, whole, cut, entryStart, pieceEntry, viewEntries, runEntries, outputEntries, partEntries}
+use Rattle.incremental_progress.proofs.Values.{CommitFills}
 use Rattle.incremental_progress.proofs.Lists.{All, All-of, All-append, All-mapped, map-append, map-flatMap, take-front}
+use Rattle.incremental_progress.proofs.Sort.{All-sort}
+use Rattle.incremental_progress.proofs.NewRuns.{fill-by-kind}
 use Rattle.incremental_progress.proofs.Ids.{Each-append, fills-sort, fills-self}
 
 -- ---- the entries are the marked commit's
-piece-marked : (v : View) (r : Range) → marked (pieceEntry v r) ≡ piece v r
-unfolding piece
-piece-marked v r = go (sameRange r (effective v))
-  where
-    go : (b : Bool) → marked (pick b (whole v) (cut v r)) ≡ pick b v (cutView v r)
-    go true = refl
-    go false = refl
-
 view-marked : (ivs : List Interval) (v : View) → map marked (viewEntries ivs v) ≡ retained ivs v
-unfolding viewEntries retained
+unfolding viewEntries retained piece
 view-marked ivs v = go (cutOut ivs (effective v ∷ []))
   where
     go : (rs : List Range) → map marked (map (pieceEntry v) rs) ≡ map (piece v) rs
     go [] = refl
-    go (r ∷ rs) = rw (piece-marked v r, go rs)
+    go (r ∷ rs) = rw (go rs)
 
 run-marked : (ivs : List Interval) (vs : List View) → map marked (runEntries ivs vs) ≡ cutRun ivs vs
 unfolding runEntries cutRun flatMap
 run-marked ivs [] = refl
 run-marked ivs (v ∷ vs) = rw (map-append marked (viewEntries ivs v), view-marked ivs v, run-marked ivs vs)
 
-output-marked : (k : Option Key) (iv : Interval) (t : Table) → map marked (outputEntries k iv t) ≡ publish k iv t
-unfolding outputEntries publish
-output-marked none iv t = refl
-output-marked (some b) iv t = go (isKey (t .last) b) (nonEmpty (overlap (own t) (toRange iv)))
-  where
-    go : (d n : Bool) → map marked (pick d (pick n (cut (identity t) (toRange iv) ∷ []) []) (whole (identity t) ∷ []))
-        ≡ pick d (pick n (cutView (identity t) (toRange iv) ∷ []) []) (identity t ∷ [])
-    go true true = refl
-    go true false = refl
-    go false n = refl
-
 part-marked : (p : Part) → map marked (partEntries p) ≡ published p
-unfolding partEntries published
+unfolding partEntries published publish
 part-marked p =
     map-flatMap marked _ (listed (durable p))
-    ∙ simp (map-flatMap, output-marked)
+    ∙ simp map-flatMap
 
 -- ---- they are made of views with whole ids
 abbrev pub source : Entry → View
@@ -121,6 +106,90 @@ unfolding flatMap
 parts-full no-parts = tt
 parts-full (one-part {p} {ps} f g) = All-append Full (partEntries p) (flatMap partEntries ps) (part-full p f) (parts-full g)
 
+-- ---- the runs of the new image
+-- an entry starts where it does when its id is left open
+marked-start : (e : Entry) → start (marked e) ≡ entryStart e
+unfolding effective
+marked-start (whole v) = refl
+marked-start (cut v r) = refl
+
+insert-marked : (e : Entry) (es : List Entry) → map marked (insert entryStart e es) ≡ insert start (marked e) (map marked es)
+unfolding insert
+insert-marked e [] = refl
+insert-marked e (d ∷ es) = rw (marked-start e, marked-start d) (go (cutAtMost (entryStart e) (entryStart d)) (insert-marked e es))
+  where
+    go : (b : Bool) → map marked (insert entryStart e es) ≡ insert start (marked e) (map marked es)
+        → map marked (pick b (e ∷ d ∷ es) (d ∷ insert entryStart e es)) ≡ pick b (marked e ∷ marked d ∷ map marked es) (marked d ∷ insert start (marked e) (map marked es))
+    go true h = refl
+    go false h = rw h
+
+sort-marked : (es : List Entry) → map marked (sort entryStart es) ≡ sort start (map marked es)
+unfolding sort
+sort-marked [] = refl
+sort-marked (e ∷ es) = insert-marked e (sort entryStart es) ∙ rw (sort-marked es)
+
+whole-marked : (vs : List View) → map marked (map whole vs) ≡ vs
+whole-marked [] = refl
+whole-marked (v ∷ vs) = rw (whole-marked vs)
+
+abbrev outputsOf : Job → List Entry
+outputsOf j = flatMap partEntries (j .parts)
+
+outputs-marked : (j : Job) → map marked (outputsOf j) ≡ flatMap published (j .parts)
+outputs-marked j = simp (map-flatMap, part-marked)
+
+abbrev openViews : Job → ℕ → List View → List Entry
+openViews j n vs = newRun entryStart j n (leftEntries j n vs) (outputsOf j)
+
+views-marked : (j : Job) (n : ℕ) (vs : List View) → markedViews j n vs ≡ map marked (openViews j n vs)
+unfolding markedViews cutDestination newRun leftEntries
+views-marked j n vs = go (eqb n (j .destination)) (has n (j .sources))
+  where
+    ivs : List Interval
+    ivs = intervals (j .parts)
+
+    left : List Entry
+    left = runEntries ivs (others (j .parts) vs)
+
+    go : (d m : Bool)
+        → pick d (sort start (cutRun ivs (others (j .parts) vs) ++ flatMap published (j .parts))) (pick m (cutRun ivs vs) vs)
+        ≡ map marked (pick d (sort entryStart (pick d left (pick m (runEntries ivs vs) (map whole vs)) ++ outputsOf j)) (pick d left (pick m (runEntries ivs vs) (map whole vs))))
+    go true m = sym (sort-marked (left ++ outputsOf j) ∙ rw (map-append marked left, run-marked ivs (others (j .parts) vs), outputs-marked j))
+    go false true = sym (run-marked ivs vs)
+    go false false = sym (whole-marked vs)
+
+abbrev pub markRun : OpenRun → Run
+markRun o = record { id = o .id; views = map marked (o .entries) }
+
+pub marked-runs : (j : Job) (i : Image) → markedRuns j i ≡ map markRun (commitRuns j i)
+unfolding markedRuns commitRuns
+marked-runs j [] = refl
+marked-runs j (r ∷ i) = rw (views-marked j (r .id) (r .views), marked-runs j i)
+
+whole-full : {vs : List View} → AllClosed vs → All Full (map whole vs)
+whole-full none-left = tt
+whole-full (one-more c d) = (c, whole-full d)
+
+views-full : (j : Job) → FullParts (j .parts) → (n : ℕ) (vs : List View) → AllClosed vs → All Full (openViews j n vs)
+unfolding newRun leftEntries
+views-full j f n vs c = go (eqb n (j .destination)) (has n (j .sources))
+  where
+    ivs : List Interval
+    ivs = intervals (j .parts)
+
+    left : List Entry
+    left = runEntries ivs (others (j .parts) vs)
+
+    go : (d m : Bool) → All Full (pick d (sort entryStart (pick d left (pick m (runEntries ivs vs) (map whole vs)) ++ outputsOf j)) (pick d left (pick m (runEntries ivs vs) (map whole vs))))
+    go true m = All-sort entryStart Full (left ++ outputsOf j) (All-append Full left (outputsOf j) (run-full ivs (others-closed (j .parts) c)) (parts-full f))
+    go false true = run-full ivs c
+    go false false = whole-full c
+
+pub runs-full : (j : Job) (i : Image) → FullParts (j .parts) → ClosedImage i → All (λ (o : OpenRun). All Full (o .entries)) (commitRuns j i)
+unfolding commitRuns
+runs-full j [] f no-runs = tt
+runs-full j (r ∷ i) f (one-run c d) = (views-full j f (r .id) (r .views) c, runs-full j i f d)
+
 -- ---- drawing
 -- what was drawn on the way
 pub record Through {A B : Type 0} (d : Drawn A) (f : A → List Ten → Drawn B) (b : B) (t : List Ten) : Type 0 where
@@ -161,9 +230,9 @@ all-fills (a ∷ es) c s vs t e =
 -- ---- the commit
 module _ (j : Job) (outs : List View) (a : Each Fills (flatMap published (j .parts)) outs) where
   views-fill : (n : ℕ) (vs : List View) → AllClosed vs → (s : List Ten) (ws : List View) (t : List Ten)
-      → fillViews j outs n vs s ≡ got ws t → Each Fills (commitViews j n vs) ws
-  unfolding fillViews commitViews cutDestination
-  views-fill n vs c s ws t e = go (eqb n (j .destination)) (has n (j .sources)) e
+      → fillViews j outs n vs s ≡ got ws t → Each Fills (markedViews j n vs) ws
+  unfolding markedViews cutDestination
+  views-fill n vs c s ws t e = go (eqb n (j .destination)) (has n (j .sources)) (sym (fill-by-kind j outs n vs s) ∙ e)
     where
       ivs : List Interval
       ivs = intervals (j .parts)
@@ -179,8 +248,8 @@ module _ (j : Job) (outs : List View) (a : Each Fills (flatMap published (j .par
       go false true e = rw run-marked at (all-fills (runEntries ivs vs) (run-full ivs c) s ws t e)
       go false false e = let f : vs ≡ ws = cc in rw f (fills-self ws)
 
-  runs-fill : (rs : Image) → ClosedImage rs → (s : List Ten) (new : Image) (t : List Ten) → fillRuns j outs rs s ≡ got new t → FillsImage (commitRuns j rs) new
-  unfolding fillRuns commitRuns
+  runs-fill : (rs : Image) → ClosedImage rs → (s : List Ten) (new : Image) (t : List Ten) → fillRuns j outs rs s ≡ got new t → FillsImage (markedRuns j rs) new
+  unfolding fillRuns markedRuns
   runs-fill [] c s new t e = let f : [] ≡ new = cc in rw (← f) no-more
   runs-fill (r ∷ rs) (one-run c d) s new t e =
       let h = through (fillViews j outs (r .id) (r .views) s) _ new t e in
@@ -194,7 +263,4 @@ pub commit-fills : CommitFills
 unfolding fillCommit
 commit-fills j i new s t o c e =
     let h = through (fillAll (flatMap partEntries (j .parts)) s) _ new t e in
-    runs-fill j (h .value) (rw all-marked at (all-fills _ (parts-full o) s (h .value) (h .rest) (h .first))) i c (h .rest) new t (h .second)
-  where
-    all-marked : map marked (flatMap partEntries (j .parts)) ≡ flatMap published (j .parts)
-    all-marked = simp (map-flatMap, part-marked)
+    runs-fill j (h .value) (rw outputs-marked at (all-fills _ (parts-full o) s (h .value) (h .rest) (h .first))) i c (h .rest) new t (h .second)

@@ -15,13 +15,15 @@ use Rattle.incremental_progress.specs.Views.{start}
 use Rattle.incremental_progress.specs.Parts.{intervals}
 use Rattle.incremental_progress.specs.Jobs.{isOutput, others}
 use Rattle.incremental_progress.specs.Checks.{covered, outputViewsCovered}
-use Rattle.incremental_progress.specs.Draws.{Ten, Drawn, used-up, got, next, runEntries, fillAll, fillViews, fillRuns, fillCommit}
+use Rattle.incremental_progress.specs.Draws.{Ten, Drawn, used-up, got, next, fillAll, fillViews, fillRuns, fillCommit}
+use Rattle.incremental_progress.specs.Entries.{runEntries}
 use Rattle.incremental_progress.specs.Gaps.{gaps, gapEntries, byGap, runGaps, placed, fillParts, gapViews, gapRuns, gapCommit}
 use Rattle.incremental_progress.proofs.Lists.{All, All-both}
 use Rattle.incremental_progress.proofs.Job.{Planned}
 use Rattle.incremental_progress.proofs.Checks.{all-each, job-parts, Checked}
 use Rattle.incremental_progress.proofs.ByGaps.{run-entries-by-gaps}
 use Rattle.incremental_progress.proofs.FilledViews.{next-next, fill-parts}
+use Rattle.incremental_progress.proofs.NewRuns.{fill-by-kind}
 use Rattle.incremental_progress.proofs.GapDestination.{fill-destination}
 
 -- a destination view of an output table leaves nothing: check 12
@@ -40,8 +42,8 @@ module _ (j : Job) (a : Planned below (j .parts)) (outs : List (List View)) (s�
       → Passing j r
       → (s : List Ten)
       → fillViews j (flatten outs) (r .id) (r .views) s ≡ gapViews j outs (r .id) (r .views) s
-  unfolding fillViews gapViews
-  views-by-gaps r p s = go (eqb (r .id) (j .destination)) (p .replaced) (has (r .id) (j .sources))
+  unfolding gapViews
+  views-by-gaps r p s = fill-by-kind j (flatten outs) (r .id) (r .views) s ∙ go (eqb (r .id) (j .destination)) (p .replaced) (has (r .id) (j .sources))
     where
       ivs : List Interval
       ivs = intervals (j .parts)

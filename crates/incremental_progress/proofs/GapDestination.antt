@@ -15,11 +15,13 @@ use Rattle.manifest.specs.Ranges.{effective}
 use Rattle.manifest.specs.Checks.{all, tablePasses, ascendFrom, ascend, starts}
 use Rattle.incremental_progress.specs.Intervals.{Interval, cutOut}
 use Rattle.incremental_progress.specs.Sort.{sort}
-use Rattle.incremental_progress.specs.Views.{start, sameRange, cutView, piece}
+use Rattle.incremental_progress.specs.Views.{start, sameRange}
+use Rattle.incremental_progress.proofs.Marked.{piece, marked}
 use Rattle.incremental_progress.specs.Parts.{intervals}
 use Rattle.incremental_progress.specs.Jobs.{isOutput, others}
 use Rattle.incremental_progress.specs.Checks.{nothingLeft, covered}
-use Rattle.incremental_progress.specs.Draws.{whole, cut, marked, pieceEntry, viewEntries, runEntries, Ten, Drawn, used-up, got, next, fillAll}
+use Rattle.incremental_progress.specs.Draws.{Ten, Drawn, used-up, got, next, fillAll}
+use Rattle.incremental_progress.specs.Entries.{whole, cut, pieceEntry, viewEntries, runEntries}
 use Rattle.incremental_progress.specs.Gaps.{gaps, pieces, runGaps, placed, byGap, fillParts}
 use Rattle.incremental_progress.proofs.Lists.{All, All-map, map-alike, map-flatMap, flatMap-alike}
 use Rattle.incremental_progress.proofs.Sort.{Sorted}
@@ -53,16 +55,9 @@ starts-sorted [] e = tt
 starts-sorted (v ∷ vs) e = sorted-from (effective v .start) vs e
 
 -- ---- where a run's entries start
-piece-marked : (v : View) (r : Range) → marked (pieceEntry v r) ≡ piece v r
-unfolding piece
-piece-marked v r = go (sameRange r (effective v))
-  where
-    go : (b : Bool) → marked (pick b (whole v) (cut v r)) ≡ pick b v (cutView v r)
-    go true = refl
-    go false = refl
-
 piece-starts : (v : View) (r : Range) → Inside (cuts r) (cuts (effective v)) → start (marked (pieceEntry v r)) ≡ startOf r
-piece-starts v r i = rw (piece-marked v r, effective-piece v r i)
+unfolding piece
+piece-starts v r i = ap startOf (effective-piece v r i)
 
 -- ---- check 12: a view that is dropped has no entry anyway
 nothing-left : (rs : List Range) → nothingLeft rs ≡ true → rs ≡ []

@@ -18,7 +18,7 @@ use Rattle.manifest.specs.Ranges.{effective}
 use Rattle.manifest.specs.Checks.{tablePasses}
 use Rattle.manifest.proofs.ViewRanges.{effective-start-is-held}
 use Rattle.incremental_progress.specs.Views.{start}
-use Rattle.incremental_progress.specs.Draws.{pieceEntry}
+use Rattle.incremental_progress.specs.Entries.{pieceEntry}
 use Rattle.incremental_progress.specs.Intervals.{Interval, listed}
 use Rattle.incremental_progress.specs.Gaps.{gapTo, lastGap, gapFrom, gapsFrom, gaps, pieces, gapEntries, Placed, gapsMet, runGaps, placed}
 use Rattle.incremental_progress.proofs.Lists.{All, All-map, All-of, All-both, All-append, All-flatMap, All-mapped, All-unmapped, Pairwise, Pairwise-append, Pairwise-all}

@@ -17,12 +17,13 @@ use Rattle.manifest.specs.Ranges.{effective}
 use Rattle.manifest.specs.Checks.{all, has, tablePasses, ascend, starts, imageChecks}
 use Rattle.incremental_progress.specs.Intervals.{Interval, cutOut}
 use Rattle.incremental_progress.specs.Sort.{insert, sort}
-use Rattle.incremental_progress.specs.Views.{start, sameRange, cutView, piece, retained, cutRun, cutDestination, shown}
-use Rattle.incremental_progress.specs.Parts.{intervals, published}
-use Rattle.incremental_progress.specs.Jobs.{isOutput, others, commitViews, commitRuns}
+use Rattle.incremental_progress.specs.Views.{start, sameRange, shown}
+use Rattle.incremental_progress.specs.Entries.{whole, cut}
+use Rattle.incremental_progress.proofs.Marked.{marked, piece, retained, cutRun, cutDestination, published, markedViews, markedRuns, blank, Fills, kept, drawn, Each, no-more, and, same-id, FillsImage, AllClosed, none-left, one-more, ClosedImage, no-runs, one-run}
+use Rattle.incremental_progress.specs.Parts.{intervals}
+use Rattle.incremental_progress.specs.Jobs.{isOutput, others}
 use Rattle.incremental_progress.specs.Checks.{covered, outputViewsCovered}
-use Rattle.incremental_progress.specs.Ids.{blank, Fills, kept, drawn, Each, no-more, and, same-id, FillsImage, AllClosed, none-left, one-more, ClosedImage, no-runs, one-run}
-use Rattle.incremental_progress.specs.Values.{beside}
+use Rattle.incremental_progress.proofs.Values.{beside}
 use Rattle.incremental_progress.proofs.Lists.{take-again, take-at-most}
 use Rattle.incremental_progress.proofs.Checks.{Checked}
 
@@ -44,11 +45,11 @@ fills-start drawn = refl
 fills-piece : {m v : View} (r : Range) → Fills m v → Fills (piece m r) (piece v r)
 unfolding piece effective
 fills-piece r kept = kept
-fills-piece r (drawn {v}) = rw (take-again 6 (v .id .0)) (go (sameRange r (effective v)))
+fills-piece r (drawn {v}) = go (sameRange r (effective v))
   where
-    go : (b : Bool) → Fills (pick b (blank v) (cutView v r)) (pick b v (cutView v r))
+    go : (b : Bool) → Fills (marked (pick b (whole (blank v)) (cut (blank v) r))) (marked (pick b (whole v) (cut v r)))
     go true = drawn
-    go false = kept
+    go false = rw (take-again 6 (v .id .0)) kept
 
 fills-retained : (ivs : List Interval) (m v : View) → Fills m v → Each Fills (retained ivs m) (retained ivs v)
 unfolding retained effective
@@ -94,8 +95,8 @@ fills-others ps (and {x} {y} {xs} {ys} f a) = rw (output f) (go (isOutput ps (y 
     go true h = h
     go false h = and f h
 
-fills-views : (j : Job) (n : ℕ) {ms vs : List View} → Each Fills ms vs → Each Fills (commitViews j n ms) (commitViews j n vs)
-unfolding commitViews cutDestination cutRun
+fills-views : (j : Job) (n : ℕ) {ms vs : List View} → Each Fills ms vs → Each Fills (markedViews j n ms) (markedViews j n vs)
+unfolding markedViews cutDestination cutRun
 fills-views j n {ms} {vs} a = go (eqb n (j .destination)) (has n (j .sources))
   where
     ivs : List Interval
@@ -111,8 +112,8 @@ fills-views j n {ms} {vs} a = go (eqb n (j .destination)) (has n (j .sources))
     go false false = a
 
 -- A commit of an image that leaves random bits open leaves open what the commit of a filled one does, and more.
-pub fills-commit : (j : Job) {ms rs : Image} → FillsImage ms rs → FillsImage (commitRuns j ms) (commitRuns j rs)
-unfolding commitRuns
+pub fills-commit : (j : Job) {ms rs : Image} → FillsImage ms rs → FillsImage (markedRuns j ms) (markedRuns j rs)
+unfolding markedRuns
 fills-commit j no-more = no-more
 fills-commit j (and (same-id {n} a) b) = and (same-id (fills-views j n a)) (fills-commit j b)
 

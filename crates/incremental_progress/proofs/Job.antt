@@ -6,7 +6,7 @@ use mathlib.Core.Path.{_≡_, refl, sym, ap, _∙_}
 use mathlib.Core.Logic.{inl, inr}
 use mathlib.Core.Bool.{Bool, true, false, _&&_, true≢false}
 use mathlib.Core.Option.{Option, none, some}
-use mathlib.Core.List.{List, [], _∷_, _++_, flatMap, append-nil}
+use mathlib.Core.List.{List, [], _∷_, _++_, map, flatMap, append-nil}
 use Rattle.base.specs.Pick.{pick}
 use Rattle.key.specs.Order.{Key}
 use Rattle.key.proofs.Linear.{key-self}
@@ -18,8 +18,10 @@ use Rattle.comparable_range.proofs.Intersection.{overlap-holds}
 use Rattle.records.specs.Values.{Table, Part}
 use Rattle.manifest.specs.Ranges.{own, effective}
 use Rattle.incremental_progress.specs.Intervals.{Interval, toRange, startBound, endBound, anyHolds, bit, listed}
-use Rattle.incremental_progress.specs.Views.{cutView, shown}
-use Rattle.incremental_progress.specs.Parts.{plannedInterval, lastWritten, isKey, upToKey, durable, intervals, identity, publish, openKey, published, listings, listedIn}
+use Rattle.incremental_progress.specs.Views.{shown}
+use Rattle.incremental_progress.proofs.Marked.{marked, publish, published}
+use Rattle.incremental_progress.specs.Entries.{whole, cut, outputEntries}
+use Rattle.incremental_progress.specs.Parts.{plannedInterval, lastWritten, isKey, upToKey, durable, intervals, identity, openKey, listings, listedIn}
 use Rattle.incremental_progress.proofs.Lists.{All, All-map}
 use Rattle.incremental_progress.proofs.Span.{within-parts, within-yes}
 use Rattle.incremental_progress.proofs.Subtraction.{holds-within}
@@ -143,7 +145,7 @@ shown-identity q x t w f = go (q t) (holds (own t) x) w f
     go false h false f = refl
 
 shown-cut : (q : Table → Bool) (x : Key) (t : Table) (r : Range)
-    → shown q x (pick (nonEmpty (overlap (own t) r)) (cutView (identity t) r ∷ []) []) ≡ pick (holds r x) (bit (q t && holds (own t) x)) 0
+    → shown q x (map marked (pick (nonEmpty (overlap (own t) r)) (cut (identity t) r ∷ []) [])) ≡ pick (holds r x) (bit (q t && holds (own t) x)) 0
 unfolding shown effective
 shown-cut q x t r = go (nonEmpty (overlap (own t) r)) refl
   where
@@ -162,7 +164,7 @@ shown-cut q x t r = go (nonEmpty (overlap (own t) r)) refl
     zero-bit true = refl
     zero-bit false = refl
 
-    go : (b : Bool) → nonEmpty (overlap (own t) r) ≡ b → shown q x (pick b (cutView (identity t) r ∷ []) []) ≡ pick (holds r x) (bit (q t && holds (own t) x)) 0
+    go : (b : Bool) → nonEmpty (overlap (own t) r) ≡ b → shown q x (map marked (pick b (cut (identity t) r ∷ []) [])) ≡ pick (holds r x) (bit (q t && holds (own t) x)) 0
     go true e = omega (arith, here)
     go false e = sym (rw (failing-holds-none (overlap (own t) r) e x) (zero-bit (q t))) ∙ here
 
@@ -172,12 +174,12 @@ Covered k iv t = ((b : Key) → k ≡ some b → isKey (t .last) b ≡ false) �
 
 shown-publish : (q : Table → Bool) (x : Key) (k : Option Key) (iv : Interval) (t : Table) → Covered k iv t
     → shown q x (publish k iv t) ≡ pick (holds (toRange iv) x) (bit (q t && holds (own t) x)) 0
-unfolding publish
+unfolding publish outputEntries
 shown-publish q x none iv t f = shown-identity q x t (holds (toRange iv) x) (f (λ b e. cc) x)
 shown-publish q x (some b) iv t f = go (isKey (t .last) b) refl
   where
     go : (d : Bool) → isKey (t .last) b ≡ d
-        → shown q x (pick d (pick (nonEmpty (overlap (own t) (toRange iv))) (cutView (identity t) (toRange iv) ∷ []) []) (identity t ∷ []))
+        → shown q x (map marked (pick d (pick (nonEmpty (overlap (own t) (toRange iv))) (cut (identity t) (toRange iv) ∷ []) []) (whole (identity t) ∷ [])))
         ≡ pick (holds (toRange iv) x) (bit (q t && holds (own t) x)) 0
     go true e = shown-cut q x t (toRange iv)
     go false e = shown-identity q x t (holds (toRange iv) x) (f (λ c d. let g : b ≡ c = cc in rw (← g) e) x)

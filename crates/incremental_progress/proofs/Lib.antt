@@ -1,3 +1,6 @@
+pub mod Marked
+pub mod Values
+pub mod NewRuns
 pub mod Accepted
 pub mod ByGaps
 pub mod Ceilings

@@ -21,8 +21,9 @@ use Rattle.manifest.specs.Checks.{all, has}
 use Rattle.manifest.proofs.Given.{whole-read}
 use Rattle.incremental_progress.specs.Commit.{resultFits}
 use Rattle.incremental_progress.specs.Parts.{intervals}
-use Rattle.incremental_progress.specs.Draws.{Entry, whole, cut, Ten, got, draw, fill, fillCommit}
-use Rattle.incremental_progress.specs.Ids.{AllClosed, none-left, one-more, ClosedImage, no-runs, one-run}
+use Rattle.incremental_progress.specs.Draws.{Ten, got, draw, fill, fillCommit}
+use Rattle.incremental_progress.specs.Entries.{Entry, whole, cut}
+use Rattle.incremental_progress.proofs.Marked.{AllClosed, none-left, one-more, ClosedImage, no-runs, one-run}
 use Rattle.incremental_progress.proofs.Lists.{All, All-map, All-mapped, All-unmapped}
 use Rattle.incremental_progress.proofs.Checks.{all-each}
 use Rattle.incremental_progress.proofs.Drawing.{IsTen, Of, next-of, draw-ten, got-of, Ready, Kept, fillCommit-keeps}

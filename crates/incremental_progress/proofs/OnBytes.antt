@@ -15,15 +15,14 @@ use Rattle.records.specs.Values.{Table, Run, Image, Part, Job}
 use Rattle.records.specs.Layouts.{table, image, job}
 use Rattle.manifest.specs.Checks.{has}
 use Rattle.incremental_progress.specs.Jobs.{commitRuns, LaterJob}
+use Rattle.incremental_progress.proofs.Marked.{markedRuns, FillsImage, FullTables, no-tables, one-table, FullParts, no-parts, one-part}
 use Rattle.incremental_progress.specs.Checks.{destinationIsSource}
 use Rattle.incremental_progress.specs.Draws.{supply}
 use Rattle.incremental_progress.specs.Commit.{commitOutcome}
-use Rattle.incremental_progress.specs.Ids.{FillsImage}
-use Rattle.incremental_progress.specs.Values.{Chain, lastOf, Steps, beside, StandsAs, DemandOnValues}
-use Rattle.incremental_progress.specs.Values as values
-use Rattle.incremental_progress.specs.Laws.{FullTables, no-tables, one-table, FullParts, no-parts, one-part, CommitFills}
+use Rattle.incremental_progress.proofs.Values.{Chain, Steps, beside, StandsAs, DemandOnValues, CommitFills}
+use Rattle.incremental_progress.specs.Demand.{lastOf, Step, OfBytes, no-step, one-step, commitStep, handedOn, after, recorded, accepted, LaterRecord, EachLater, otherBytes, Stands, StandsBy, Demand-3}
+use Rattle.incremental_progress.proofs.Values as values
 use Rattle.incremental_progress.specs.Patterns.{imagePattern, Fits}
-use Rattle.incremental_progress.specs.Demand.{Step, OfBytes, no-step, one-step, commitStep, handedOn, after, recorded, accepted, LaterRecord, EachLater, otherBytes, Stands, StandsBy, Demand-3}
 use Rattle.incremental_progress.specs.Demand as demand
 use Rattle.incremental_progress.proofs.Lists.{All}
 use Rattle.incremental_progress.proofs.OnValues.{demand-on-values}
@@ -53,8 +52,8 @@ record Taken (i : Image) (record′ bytes : List ℕ) : Type 0 where
   new : Image
   read : whole (job .read) record′ ≡ answer progress
   source : has (progress .destination) (progress .sources) ≡ true
-  marked : values.markedOutcome i progress ≡ answer (commitRuns progress i)
-  fills : FillsImage (commitRuns progress i) new
+  marked : values.markedOutcome i progress ≡ answer (markedRuns progress i)
+  fills : FillsImage (markedRuns progress i) new
   stands : Stored bytes new
 
 module _ (commit-fills : CommitFills) where
@@ -81,12 +80,13 @@ module _ (commit-fills : CommitFills) where
       subst (λ k. Taken k record′ bytes) x
       (made-new (a .made) record′ (rw x (s .within)) (job-within record′ (a .progress) b (a .progress-is)) (a .progress-is) (a .written))
 
--- the bytes that were written, by the pattern of the marked image
-taken-fits : {i : Image} {r bytes : List ℕ} {j : Job} (t : Taken i r bytes) → whole (job .read) r ≡ answer j → Fits (imagePattern (commitRuns j i)) bytes
-taken-fits {i} {r} {bytes} {j} t p =
+-- the bytes that were written, by the pattern of the commit
+taken-fits : {i : Image} {r bytes : List ℕ} {j : Job} → ImageWithin i → Bytes r → (t : Taken i r bytes) → whole (job .read) r ≡ answer j → Fits (imagePattern (commitRuns j i)) bytes
+taken-fits {i} {r} {bytes} {j} w b t p =
     let x : t .progress ≡ j = same-answer (t .read) p in
+    let f = full-parts (t .progress .parts) (job-within r (t .progress) b (t .read)) in
     subst (λ k. Fits (imagePattern (commitRuns k i)) bytes) x
-    (subst (Fits (imagePattern (commitRuns (t .progress) i))) (sym (t .stands .bytes)) (fits-image (t .fills) (closed (t .new) (t .stands .within))))
+    (subst (Fits (imagePattern (commitRuns (t .progress) i))) (sym (t .stands .bytes)) (fits-image (t .progress) i f (closed i w) (t .fills) (closed (t .new) (t .stands .within))))
 
 -- ---- a list of commits on an image as it is stored
 -- the jobs that the accepted records stand for
@@ -189,12 +189,12 @@ last-of (one-record p c b (one-record q d x rs)) = last-of (one-record q d x rs)
 module _ (commit-fills : CommitFills) {first last : List ℕ} {i final : Image} (s : Stored first i) (t : Stored last final) where
   module _ {r : List ℕ} {j : Job} (p : whole (job .read) r ≡ answer j) (c : has (j .destination) (j .sources) ≡ true) (b : Bytes r) (a : StandsAs i final j) where
     last-fits : Fits (imagePattern (commitRuns j i)) last
-    last-fits = rw (t .bytes) (fits-image (a .alone) (closed final (t .within)))
+    last-fits = rw (t .bytes) (fits-image j i (full-parts (j .parts) (job-within r j b p)) (closed i (s .within)) (a .alone) (closed final (t .within)))
 
     -- the record committed alone
     lone : (ids : List ℕ) (room : ℕ) (new : List ℕ) → commitOutcome first r ids room ≡ answer new → Fits (imagePattern (commitRuns j i)) new
     lone ids room new e =
-        taken-fits (taken commit-fills r ids room s b e) p
+        taken-fits (s .within) b (taken commit-fills r ids room s b e) p
 
     stands-as : Stands first last r
     stands-as =

@@ -1,53 +1,40 @@
 -- Demand 3 over values, whatever ids the commits draw.
 -- Assumes nothing.
-use Prim.Native.Nat.{ℕ}
-use mathlib.Core.Path.{_≡_, refl, _∙_}
-use mathlib.Core.Bool.{Bool, true, false, _&&_}
+use mathlib.Core.Path.{_≡_, _∙_}
 use mathlib.Core.Option.{Option, none, some}
 use mathlib.Core.List.{List, _∷_}
 use Rattle.base.specs.Pick.{and-first, and-second}
-use Rattle.base.specs.Outcome.{Outcome, answer, check}
+use Rattle.base.specs.Outcome.{answer}
 use Rattle.records.specs.Values.{Image, Job}
 use Rattle.manifest.specs.Checks.{imageChecks, jobChecks}
-use Rattle.incremental_progress.specs.Jobs.{commitRuns}
-use Rattle.incremental_progress.specs.Checks.{destinationIsSource, sourcesThere, plannedInOrder, outputsInOrder, outputViewsCovered}
-use Rattle.incremental_progress.specs.Ids.{FillsImage}
-use Rattle.incremental_progress.specs.Values.{markedOutcome, Chain, and-then, lastOf, Steps, end, refused, accepted, StandsBy, DemandOnValues}
+use Rattle.incremental_progress.proofs.Marked.{markedRuns, FillsImage}
+use Rattle.incremental_progress.proofs.Values.{markedOutcome, Chain, and-then, Steps, end, refused, accepted, StandsBy, DemandOnValues}
+use Rattle.incremental_progress.specs.Demand.{lastOf}
 use Rattle.incremental_progress.proofs.Commit.{Commits, no-commit, first-accepted, later-accepted, none-accepted, same-runs, untouched, as-if-alone, shows-as-expected}
 use Rattle.incremental_progress.proofs.Checks.{Checked, passes}
+use Rattle.incremental_progress.proofs.Outcomes.{passed-all}
 use Rattle.incremental_progress.proofs.Ids.{fills-commit, fills-checked, image-trans, image-self, image-shown, image-ids, image-beside, closed-image}
 
-pub passed : {A : Type 0} (b : Bool) (n : ℕ) (o : Outcome A) (a : A) → check n b o ≡ answer a → (b ≡ true) × (o ≡ answer a)
-passed true n o a e = (refl, e)
-passed false n o a e = (cc, cc)
-
 -- a commit that is not refused passed the checks
-pub accepted-checks : (runs : Image) (j : Job) (new : Image) → markedOutcome runs j ≡ answer new → Checked runs j × (new ≡ commitRuns j runs)
+pub accepted-checks : (runs : Image) (j : Job) (new : Image) → markedOutcome runs j ≡ answer new → Checked runs j × (new ≡ markedRuns j runs)
 unfolding markedOutcome
 accepted-checks runs j new e =
     let i = imageChecks runs in
     let k = jobChecks j in
-    let c4 = passed (i .ranges && k .ranges) 4 _ new e in
-    let c5 = passed (i .tables && k .tables) 5 _ new (c4 .1) in
-    let c6 = passed (i .order && k .order) 6 _ new (c5 .1) in
-    let c7 = passed (i .sizes && k .sizes) 7 _ new (c6 .1) in
-    let c8 = passed (destinationIsSource j) 8 _ new (c7 .1) in
-    let c9 = passed (sourcesThere runs j) 9 _ new (c8 .1) in
-    let c10 = passed (plannedInOrder j) 10 _ new (c9 .1) in
-    let c11 = passed (outputsInOrder j) 11 _ new (c10 .1) in
-    let c12 = passed (outputViewsCovered runs j) 12 _ new (c11 .1) in
-    let w : answer (commitRuns j runs) ≡ answer new = c12 .1 in (
+    let p = passed-all runs j (answer (markedRuns j runs)) new e in
+    let first = p .0 .first in
+    let w = p .1 in (
       record {
-        tables = and-first (i .tables) (k .tables) (c5 .0);
-        order = and-first (i .order) (k .order) (c6 .0);
+        tables = and-first (i .tables) (k .tables) (first .tables);
+        order = and-first (i .order) (k .order) (first .order);
         job =
             record {
-              ranges = and-second (i .ranges) (k .ranges) (c4 .0);
-              tables = and-second (i .tables) (k .tables) (c5 .0);
-              planned = c10 .0;
-              outputs = c11 .0;
+              ranges = and-second (i .ranges) (k .ranges) (first .ranges);
+              tables = and-second (i .tables) (k .tables) (first .tables);
+              planned = p .0 .planned;
+              outputs = p .0 .outputs;
             };
-        covered = c12 .0;
+        covered = p .0 .covered;
       },
       cc,
     )

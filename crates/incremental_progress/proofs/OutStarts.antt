@@ -14,9 +14,11 @@ use Rattle.comparable_range.proofs.ByCuts.{start-side-cut, end-side-cut, passes
 use Rattle.records.specs.Values.{Table, View, Part}
 use Rattle.manifest.specs.Ranges.{own, effective}
 use Rattle.incremental_progress.specs.Intervals.{Interval, listed, toRange}
-use Rattle.incremental_progress.specs.Views.{start, cutView}
+use Rattle.incremental_progress.specs.Views.{start}
+use Rattle.incremental_progress.proofs.Marked.{cutView, marked}
 use Rattle.incremental_progress.specs.Parts.{plannedInterval, isKey, durable, intervals, identity, openKey}
-use Rattle.incremental_progress.specs.Draws.{Entry, whole, cut, marked, outputEntries, partEntries, Ten, got, fillAll}
+use Rattle.incremental_progress.specs.Draws.{Ten, got, fillAll}
+use Rattle.incremental_progress.specs.Entries.{Entry, whole, cut, outputEntries, partEntries}
 use Rattle.incremental_progress.specs.Gaps.{ofInterval, fillParts}
 use Rattle.incremental_progress.proofs.Lists.{All, All-map, All-append, All-unmapped, Pairwise, Pairwise-append, Pairwise-all, map-flatMap}
 use Rattle.incremental_progress.proofs.Sort.{Sorted}
@@ -25,8 +27,8 @@ use Rattle.incremental_progress.proofs.GapLaws.{Outs, no-outs, outs-of}
 use Rattle.incremental_progress.proofs.Filling.{through}
 use Rattle.incremental_progress.proofs.FilledViews.{filled-starts}
 
-abbrev entryStart : Entry → Cut
-entryStart e = start (marked e)
+abbrev markedStart : Entry → Cut
+markedStart e = start (marked e)
 
 -- ---- one output
 -- an output that is not cut starts in the interval
@@ -51,27 +53,27 @@ cut-within iv t h n =
     let m = rw (start-side-cut (own t .start) (toRange iv .start), end-side-cut (own t .end) (toRange iv .end), later-left h) at (passes-≺ (r .start) (r .end) n) in
     ≺-≼-trans m (sooner-≼-right (endCut (own t .end)) (toCut iv))
 
-output-at : (k : Option Key) (iv : Interval) (t : Table) → fromCut iv ≼ before (t .first) → Uncut k iv t → All (At iv t) (map entryStart (outputEntries k iv t))
+output-at : (k : Option Key) (iv : Interval) (t : Table) → fromCut iv ≼ before (t .first) → Uncut k iv t → All (At iv t) (map markedStart (outputEntries k iv t))
 unfolding outputEntries
 output-at none iv t h u = ((whole-starts t, rw whole-starts (u (λ b e. cc))), tt)
 output-at (some b) iv t h u = go (isKey (t .last) b) refl (nonEmpty (overlap (own t) (toRange iv))) refl
   where
     go : (d : Bool) → isKey (t .last) b ≡ d → (n : Bool) → nonEmpty (overlap (own t) (toRange iv)) ≡ n
-        → All (At iv t) (map entryStart (pick d (pick n (cut (identity t) (toRange iv) ∷ []) []) (whole (identity t) ∷ [])))
+        → All (At iv t) (map markedStart (pick d (pick n (cut (identity t) (toRange iv) ∷ []) []) (whole (identity t) ∷ [])))
     go true d true n = ((cut-starts iv t h, rw (cut-starts iv t h) (cut-within iv t h n)), tt)
     go true d false n = tt
     go false d n e = ((whole-starts t, rw whole-starts (u (λ c f. let g : b ≡ c = cc in rw (← g) d))), tt)
 
 -- ---- the outputs of an interval
 abbrev outStarts : Option Key → Interval → List Table → List Cut
-outStarts k iv ts = flatMap (λ t. map entryStart (outputEntries k iv t)) ts
+outStarts k iv ts = flatMap (λ t. map markedStart (outputEntries k iv t)) ts
 
 outputs-in : {e c : Cut} {ts : List Table} (k : Option Key) (iv : Interval) → Ascending e c ts → fromCut iv ≼ c → All (Uncut k iv) ts
     → All (λ x. (c ≼ x) × (x ≺ toCut iv)) (outStarts k iv ts)
 unfolding flatMap
 outputs-in k iv no-more h u = tt
 outputs-in {c} k iv (output {t} {ts} i b r m a) h u =
-    let mine = map entryStart (outputEntries k iv t) in
+    let mine = map markedStart (outputEntries k iv t) in
     let rest = outStarts k iv ts in
     All-append (λ x. (c ≼ x) × (x ≺ toCut iv)) mine rest
     (All-map (λ x n. (rw (n .0) b, n .1)) mine (output-at k iv t (≼-trans h b) (u .0)))
@@ -82,7 +84,7 @@ outputs-sorted : {e c : Cut} {ts : List Table} (k : Option Key) (iv : Interval) 
 unfolding flatMap
 outputs-sorted k iv no-more h u = tt
 outputs-sorted k iv (output {t} {l} {ts} i b r m a) h u =
-    let mine = map entryStart (outputEntries k iv t) in
+    let mine = map markedStart (outputEntries k iv t) in
     let rest = outStarts k iv ts in
     let here = output-at k iv t (≼-trans h b) (u .0) in
     let far : fromCut iv ≼ before l = ≼-trans h (≼-trans b r) in
@@ -99,7 +101,7 @@ Pairwise-unmapped R f (x ∷ xs) p = (All-unmapped (R (f x)) f xs (p .0), Pairwi
 module _ (k : Option Key) (iv : Interval) {e : Cut} {ts : List Table} (a : Ascending e (fromCut iv) ts) (u : All (Uncut k iv) ts)
     (s : List Ten) (vs : List View) (t : List Ten) (f : fillAll (flatMap (outputEntries k iv) ts) s ≡ got vs t) where
   filled-at : map start vs ≡ outStarts k iv ts
-  filled-at = filled-starts (flatMap (outputEntries k iv) ts) s vs t f ∙ map-flatMap entryStart (outputEntries k iv) ts
+  filled-at = filled-starts (flatMap (outputEntries k iv) ts) s vs t f ∙ map-flatMap markedStart (outputEntries k iv) ts
 
   filled-in : All (λ v. (fromCut iv ≼ start v) × (start v ≺ toCut iv)) vs
   filled-in = All-unmapped (λ x. (fromCut iv ≼ x) × (x ≺ toCut iv)) start vs (rw filled-at (outputs-in k iv a (≼-refl (fromCut iv)) u))

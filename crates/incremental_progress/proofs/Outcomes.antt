@@ -12,11 +12,11 @@ use Rattle.format.specs.Whole.{whole}
 use Rattle.records.specs.Values.{Image, Job}
 use Rattle.records.specs.Layouts.{image, job}
 use Rattle.manifest.specs.Checks.{Checks, checked, joined, imageChecks, jobChecks}
-use Rattle.incremental_progress.specs.Jobs.{commitRuns}
+use Rattle.incremental_progress.proofs.Marked.{markedRuns}
 use Rattle.incremental_progress.specs.Checks.{destinationIsSource, sourcesThere, plannedInOrder, outputsInOrder, outputViewsCovered, retainedMeet}
 use Rattle.incremental_progress.specs.Draws.{Ten, Drawn, used-up, got, supply, fillCommit}
-use Rattle.incremental_progress.specs.Commit.{drawnOr, resultFits, committed, commitOutcome}
-use Rattle.incremental_progress.specs.Values.{markedOutcome}
+use Rattle.incremental_progress.specs.Commit.{drawnOr, resultFits, drawnImage, jobChecked, applied, committed, commitOutcome}
+use Rattle.incremental_progress.proofs.Values.{markedOutcome}
 
 -- ---- outcomes
 pub record Answered {A B : Type 0} (o : Outcome A) (f : A → Outcome B) (b : B) : Type 0 where
@@ -63,45 +63,44 @@ pub record Made (i : Image) (j : Job) (ids : List ℕ) (new : Image) : Type 0 wh
   pub drawn : fillCommit j i (supply ids) ≡ got new left
   pub fits : resultFits new ≡ true
 
+-- the checks 8 to 13
+passed-job : {A : Type 0} (i : Image) (j : Job) (o : Outcome A) (a : A) → jobChecked i j o ≡ answer a → AllPass (joined (imageChecks i) (jobChecks j)) → Passes i j × (o ≡ answer a)
+unfolding jobChecked
+passed-job i j o a e first =
+    let c8 = tested 8 (destinationIsSource j) _ a e in
+    let c9 = tested 9 (sourcesThere i j) _ a (c8 .1) in
+    let c10 = tested 10 (plannedInOrder j) _ a (c9 .1) in
+    let c11 = tested 11 (outputsInOrder j) _ a (c10 .1) in
+    let c12 = tested 12 (outputViewsCovered i j) _ a (c11 .1) in
+    let c13 = tested 13 (retainedMeet i j) o a (c12 .1) in
+    (record { first = first; source = c8 .0; there = c9 .0; planned = c10 .0; outputs = c11 .0; covered = c12 .0; meet = c13 .0 }, c13 .1)
+
+-- all of them
+pub passed-all :
+    {A : Type 0} (i : Image) (j : Job) (o : Outcome A) (a : A)
+    → checked (joined (imageChecks i) (jobChecks j)) (jobChecked i j o) ≡ answer a
+    → Passes i j × (o ≡ answer a)
+passed-all i j o a e = let p = all-pass (joined (imageChecks i) (jobChecks j)) (jobChecked i j o) a e in passed-job i j o a (p .1) (p .0)
+
 drawn-answer : {A : Type 0} (d : Drawn A) (a : A) → drawnOr d ≡ answer a → record { left : List Ten; is : d ≡ got a left }
 drawn-answer used-up a e = absurd (let z : _≡_ {A = ℕ} 0 1 = cc in omega arith)
 drawn-answer (got b s) a e = let x : b ≡ a = cc in record { left = s; is = ap (λ c. got c s) x }
 
 made : (i : Image) (j : Job) (ids : List ℕ) (new : Image) → committed i j ids ≡ answer new → Made i j ids new
-unfolding committed
+unfolding committed applied drawnImage
 made i j ids new e =
-    let a = all-pass (joined (imageChecks i) (jobChecks j)) _ new e in
-    let c8 = tested 8 (destinationIsSource j) _ new (a .1) in
-    let c9 = tested 9 (sourcesThere i j) _ new (c8 .1) in
-    let c10 = tested 10 (plannedInOrder j) _ new (c9 .1) in
-    let c11 = tested 11 (outputsInOrder j) _ new (c10 .1) in
-    let c12 = tested 12 (outputViewsCovered i j) _ new (c11 .1) in
-    let c13 = tested 13 (retainedMeet i j) _ new (c12 .1) in
-    let d = answered (drawnOr (fillCommit j i (supply ids))) _ new (c13 .1) in
+    let p = passed-all i j (drawnImage (fillCommit j i (supply ids))) new e in
+    let d = answered (drawnOr (fillCommit j i (supply ids))) _ new (p .1) in
     let c15 = tested 15 (resultFits (d .value)) (answer (d .value)) new (d .second) in
     let x : d .value ≡ new = cc (c15 .1) in
     let g = drawn-answer (fillCommit j i (supply ids)) new (d .first ∙ ap answer x) in
-    record {
-      passes =
-          record {
-            first = a .0;
-            source = c8 .0;
-            there = c9 .0;
-            planned = c10 .0;
-            outputs = c11 .0;
-            covered = c12 .0;
-            meet = c13 .0;
-          };
-      left = g .left;
-      drawn = g .is;
-      fits = rw (← x) (c15 .0);
-    }
+    record { passes = p .0; left = g .left; drawn = g .is; fits = rw (← x) (c15 .0) }
 
 -- the outcome with drawn ids left open
-pub marked-answer : (i : Image) (j : Job) → Passes i j → markedOutcome i j ≡ answer (commitRuns j i)
-unfolding markedOutcome
+pub marked-answer : (i : Image) (j : Job) → Passes i j → markedOutcome i j ≡ answer (markedRuns j i)
+unfolding markedOutcome jobChecked
 marked-answer i j p =
-    rw (p .first .ranges, p .first .tables, p .first .order, p .first .sizes, p .source, p .there, p .planned, p .outputs, p .covered)
+    rw (p .first .ranges, p .first .tables, p .first .order, p .first .sizes, p .source, p .there, p .planned, p .outputs, p .covered, p .meet)
 
 -- ---- an accepted commit
 pub record Accepted (given record′ ids bytes : List ℕ) : Type 0 where

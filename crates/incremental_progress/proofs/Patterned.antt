@@ -1,18 +1,23 @@
--- The bytes of an image fit the pattern of any image that it fills.
+-- The bytes of an image that fills a commit fit the pattern of the commit.
 -- Assumes nothing.
-use Prim.Native.Nat.{ℕ, suc, _-_}
+use Prim.Native.Nat.{ℕ, suc}
 use native.Mathlib.Omega.{arith}
-use mathlib.Core.Path.{_≡_, refl, sym, ap, subst}
-use mathlib.Core.List.{List, [], _∷_, _++_, flatMap, append-assoc, append-nil}
-use lib.ListN.{length, take, drop, length-drop, take-append-drop}
-use lib.Seq.{length-take-le}
+use mathlib.Core.Path.{_≡_, refl, sym, ap, subst, _∙_}
+use mathlib.Core.Option.{some}
+use mathlib.Core.List.{List, [], _∷_, _++_, map, flatMap, append-assoc}
+use lib.ListN.{length, take, drop, length-drop, length-map, take-append-drop}
+use Rattle.comparable_range.specs.Range.{Range}
 use Rattle.format.specs.Number.{writeNumber}
-use Rattle.records.specs.Values.{View, Run, Image}
+use Rattle.records.specs.Values.{View, Run, Image, Job}
 use Rattle.records.specs.Form.{writeMany}
 use Rattle.records.specs.Layouts.{view, run, image, upTo}
 use Rattle.records.specs.Spans.{runHead}
-use Rattle.incremental_progress.specs.Ids.{Fills, kept, drawn, Each, no-more, and, FillsRun, same-id, FillsImage, Closed, AllClosed, none-left, one-more, ClosedImage, no-runs, one-run}
-use Rattle.incremental_progress.specs.Patterns.{Pattern, known, unknown, idPattern, viewPattern, runPattern, imagePattern, Fits, ended, same, any, AlikeBut, both-ended, equal, free}
+use Rattle.incremental_progress.specs.Entries.{Entry, whole, cut}
+use Rattle.incremental_progress.specs.Jobs.{OpenRun, commitRuns}
+use Rattle.incremental_progress.specs.Patterns.{Pattern, known, unknown, afterId, idPattern, entryPattern, runPattern, imagePattern, Fits, ended, same, any, AlikeBut, both-ended, equal, free}
+use Rattle.incremental_progress.proofs.Lists.{All, take-at-most}
+use Rattle.incremental_progress.proofs.Marked.{cutView, marked, markedRuns, Fills, kept, drawn, Each, no-more, and, FillsRun, same-id, FillsImage, Closed, AllClosed, none-left, one-more, ClosedImage, no-runs, one-run, FullParts}
+use Rattle.incremental_progress.proofs.Filling.{Full, markRun, marked-runs, runs-full}
 
 -- ---- patterns
 pub fits-known : (l : List ℕ) → Fits (known l) l
@@ -35,35 +40,45 @@ alike ended ended = both-ended
 alike (same f) (same g) = equal (alike f g)
 alike (any f) (any g) = free (alike f g)
 
--- ---- views
--- what is written after a view's id
-abbrev rest : View → List ℕ
-rest v = view .write (record { id = record { 0 = [] }; table = v .table; visible = v .visible })
-
-view-bytes : (v : View) → view .write v ≡ v .id .0 ++ rest v
+-- ---- entries
+view-bytes : (v : View) → view .write v ≡ v .id .0 ++ afterId v
 unfolding view
 view-bytes v = refl
 
--- an id that is kept has 16 bytes, and one that is drawn has 10 after its time
-fits-kept : (l : List ℕ) → length l ≡ 16 → Fits (known l ++ unknown (16 - length l)) l
-unfolding unknown
-fits-kept l e = rw (e, append-nil) (fits-known l)
-
-fits-drawn : (l : List ℕ) → length l ≡ 16 → Fits (known (take 6 l) ++ unknown (16 - length (take 6 l))) l
+-- a drawn id has 10 bytes after its time
+fits-drawn : (l : List ℕ) → length l ≡ 16 → Fits (known (take 6 l) ++ unknown 10) l
 fits-drawn l e =
-    let n : 16 - length (take 6 l) ≡ length (drop 6 l) = rw (length-take-le 6 l (omega arith), length-drop) (omega arith) in
+    let n : 10 ≡ length (drop 6 l) = rw length-drop (omega arith) in
     let f = fits-both (fits-known (take 6 l)) (fits-unknown (drop 6 l)) in
     rw n (subst (Fits (known (take 6 l) ++ unknown (length (drop 6 l)))) (take-append-drop 6 l) f)
 
-fits-view : {u v : View} → Fills u v → Closed v → Fits (viewPattern u) (view .write v)
-unfolding viewPattern idPattern
-fits-view (kept {v}) c = rw (view-bytes v) (fits-both (fits-kept (v .id .0) (c .full)) (fits-known (rest v)))
-fits-view (drawn {v}) c = rw (view-bytes v) (fits-both (fits-drawn (v .id .0) (c .full)) (fits-known (rest v)))
+-- an id with its 16 bytes is filled by itself alone
+fits-whole : (v : View) {w : View} → Fills v w → Closed v → Fits (entryPattern (whole v)) (view .write w)
+unfolding entryPattern idPattern
+fits-whole v kept c = rw (view-bytes v) (fits-both (fits-known (v .id .0)) (fits-known (afterId v)))
+fits-whole v (drawn {v = w}) c = let e = c .full in let h = take-at-most 6 (w .id .0) in absurd (omega arith)
 
-fits-views : {us vs : List View} → Each Fills us vs → AllClosed vs → Fits (flatMap viewPattern us) (writeMany (view .write) vs)
+fits-cut : (v : View) (r : Range) {m w : View} → Fills m w → m ≡ cutView v r → Closed w → Fits (entryPattern (cut v r)) (view .write w)
+unfolding entryPattern idPattern
+fits-cut v r (kept {v = w}) e c =
+    let i : length (w .id .0) ≡ length (take 6 (v .id .0)) = ap (λ (u : View). length (u .id .0)) e in
+    let f = c .full in
+    let h = take-at-most 6 (v .id .0) in
+    absurd (omega arith)
+fits-cut v r (drawn {v = w}) e c =
+    let t : take 6 (w .id .0) ≡ take 6 (v .id .0) = ap (λ (u : View). u .id .0) e in
+    let a : w .table ≡ v .table = ap (λ (u : View). u .table) e in
+    let b : w .visible ≡ some r = ap (λ (u : View). u .visible) e in
+    rw (view-bytes w, ← t, ← a, ← b) (fits-both (fits-drawn (w .id .0) (c .full)) (fits-known (afterId w)))
+
+fits-entry : (e : Entry) {w : View} → Full e → Fills (marked e) w → Closed w → Fits (entryPattern e) (view .write w)
+fits-entry (whole v) o f c = fits-whole v f o
+fits-entry (cut v r) o f c = fits-cut v r f refl c
+
+fits-entries : (es : List Entry) {ws : List View} → All Full es → Each Fills (map marked es) ws → AllClosed ws → Fits (flatMap entryPattern es) (writeMany (view .write) ws)
 unfolding flatMap writeMany
-fits-views no-more none-left = ended
-fits-views (and f fs) (one-more c cs) = fits-both (fits-view f c) (fits-views fs cs)
+fits-entries [] o no-more none-left = ended
+fits-entries (e ∷ es) o (and f fs) (one-more c cs) = fits-both (fits-entry e (o .0) f c) (fits-entries es (o .1) fs cs)
 
 -- ---- runs and images
 each-length : {A : Type 0} {R : A → A → Type 0} {xs ys : List A} → Each R xs ys → length xs ≡ length ys
@@ -74,17 +89,29 @@ run-bytes : (r : Run) → run .write r ≡ runHead .write (r .id, length (r .vie
 unfolding run
 run-bytes r = sym (append-assoc (writeNumber 4 (r .id)) _ _)
 
-fits-run : {q r : Run} → FillsRun q r → AllClosed (r .views) → Fits (runPattern q) (run .write r)
+fits-run : (o : OpenRun) {r : Run} → All Full (o .entries) → FillsRun (markRun o) r → AllClosed (r .views) → Fits (runPattern o) (run .write r)
 unfolding runPattern
-fits-run (same-id {n} {ws} f) c =
-    rw (run-bytes (record { id = n; views = ws }), each-length f) (fits-both (fits-known (runHead .write (n, length ws))) (fits-views f c))
+fits-run o a (same-id {n} {ws} f) c =
+    let m : length (o .entries) ≡ length ws = sym (length-map (o .entries) marked) ∙ each-length f in
+    rw (run-bytes (record { id = n; views = ws }), m) (fits-both (fits-known (runHead .write (n, length ws))) (fits-entries (o .entries) a f c))
 
-fits-runs : {qs rs : List Run} → Each FillsRun qs rs → ClosedImage rs → Fits (flatMap runPattern qs) (writeMany (run .write) rs)
+fits-runs : (os : List OpenRun) {rs : List Run} → All (λ o. All Full (o .entries)) os → Each FillsRun (map markRun os) rs → ClosedImage rs → Fits (flatMap runPattern os) (writeMany (run .write) rs)
 unfolding flatMap writeMany
-fits-runs no-more no-runs = ended
-fits-runs (and f fs) (one-run c cs) = fits-both (fits-run f c) (fits-runs fs cs)
+fits-runs [] a no-more no-runs = ended
+fits-runs (o ∷ os) a (and f fs) (one-run c cs) = fits-both (fits-run o (a .0) f c) (fits-runs os (a .1) fs cs)
 
--- The bytes of an image all of whose ids have 16 bytes.
-pub fits-image : {marked new : Image} → FillsImage marked new → ClosedImage new → Fits (imagePattern marked) (image .write new)
+fits-open : (os : List OpenRun) {new : Image} → All (λ o. All Full (o .entries)) os → FillsImage (map markRun os) new → ClosedImage new → Fits (imagePattern os) (image .write new)
 unfolding imagePattern image
-fits-image {new = new} f c = rw (each-length f) (fits-both (fits-known (upTo 1 64 .write (length new))) (fits-runs f c))
+fits-open os {new} a f c =
+    let m : length os ≡ length new = sym (length-map os markRun) ∙ each-length f in
+    rw m (fits-both (fits-known (upTo 1 64 .write (length new))) (fits-runs os a f c))
+
+-- The bytes of an image all of whose ids have 16 bytes, and that fills a commit.
+pub fits-image :
+    (j : Job) (i : Image) {new : Image}
+    → FullParts (j .parts)
+    → ClosedImage i
+    → FillsImage (markedRuns j i) new
+    → ClosedImage new
+    → Fits (imagePattern (commitRuns j i)) (image .write new)
+fits-image j i p d f c = fits-open (commitRuns j i) (runs-full j i p d) (rw marked-runs at f) c

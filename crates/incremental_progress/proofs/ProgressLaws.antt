@@ -1,27 +1,23 @@
--- Laws of progress: later records hold more, check 13 never refuses, and committing a record twice is committing it once.
+-- Laws of progress: later records hold more, and check 13 never refuses.
 -- Assumes nothing.
 use mathlib.Core.Path.{_≡_, refl, sym, _∙_}
 use mathlib.Core.Bool.{Bool, true, false, not, _||_}
 use mathlib.Core.List.{List, [], _∷_}
 use Rattle.comparable_range.specs.Range.{intersectSides, meets}
-use Rattle.records.specs.Values.{View, Job}
+use Rattle.records.specs.Values.{View}
 use Rattle.manifest.specs.Ranges.{own, effective}
 use Rattle.manifest.specs.Checks.{all, has, tablePasses, imageChecks}
 use Rattle.incremental_progress.specs.Intervals.{Interval, cutOut}
 use Rattle.incremental_progress.specs.Parts.{intervals}
-use Rattle.incremental_progress.specs.Jobs.{commitRuns, LaterJob}
+use Rattle.incremental_progress.specs.Jobs.{LaterJob}
 use Rattle.incremental_progress.specs.Checks.{retainedMeets, retainedMeet}
-use Rattle.incremental_progress.specs.Ids.{FillsImage}
-use Rattle.incremental_progress.specs.Laws.{LaterHoldsMore, RetainedAlwaysMeets, CommitsTwiceAlike}
+use Rattle.incremental_progress.specs.Laws.{LaterHoldsMore, RetainedAlwaysMeets}
 use Rattle.incremental_progress.proofs.Lists.{All, All-map}
 use Rattle.incremental_progress.proofs.Cutting.{grown-within}
 use Rattle.incremental_progress.proofs.Subtraction.{any-cuts}
 use Rattle.incremental_progress.proofs.Views.{cut-inside, retained-meets}
-use Rattle.incremental_progress.proofs.Later.{later-self, intervals-grown}
-use Rattle.incremental_progress.proofs.Commit.{no-commit, first-accepted, later-accepted, as-if-alone}
-use Rattle.incremental_progress.proofs.Checks.{all-each, sane, job-parts, passes}
-use Rattle.incremental_progress.proofs.Ids.{fills-commit, fills-checked, image-trans}
-use Rattle.incremental_progress.proofs.OnValues.{accepted-checks}
+use Rattle.incremental_progress.proofs.Later.{intervals-grown}
+use Rattle.incremental_progress.proofs.Checks.{all-each, sane, job-parts}
 
 pub later-holds-more : LaterHoldsMore
 later-holds-more i j l a b x h =
@@ -50,16 +46,3 @@ retained-always-meets i j h =
     either : (a : Bool) {b : Bool} → b ≡ true → (not a || b) ≡ true
     either true e = e
     either false e = refl
-
--- ---- the same record again
-later-itself : (j : Job) → LaterJob j j
-later-itself j = record { destination = refl; sources = refl; parts = later-self (j .parts) }
-
-pub commits-twice-alike : CommitsTwiceAlike
-commits-twice-alike i once new twice again j e f g h =
-    let c = accepted-checks i j once e in
-    let d = accepted-checks new j twice g in
-    let f : FillsImage (commitRuns j i) new = rw (c .1) at f in
-    let k = first-accepted j no-commit (passes i j (c .0)) in
-    let s = as-if-alone j (later-accepted j j k (passes (commitRuns j i) j (fills-checked j f (d .0))) (later-itself j)) in
-    image-trans (rw (s, ← c .1) at (fills-commit j f)) (rw (d .1) at h)

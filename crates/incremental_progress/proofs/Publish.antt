@@ -16,8 +16,10 @@ use Rattle.comparable_range.proofs.Intersection.{overlap-holds}
 use Rattle.records.specs.Values.{Table, View, Part}
 use Rattle.manifest.specs.Ranges.{own, effective}
 use Rattle.incremental_progress.specs.Intervals.{Interval, toRange, startBound, endBound, cutOut, anyHolds, listed}
-use Rattle.incremental_progress.specs.Views.{cutView, start, retained}
-use Rattle.incremental_progress.specs.Parts.{plannedInterval, isKey, durable, intervals, identity, publish, published}
+use Rattle.incremental_progress.specs.Views.{start}
+use Rattle.incremental_progress.proofs.Marked.{cutView, marked, retained, publish, published}
+use Rattle.incremental_progress.specs.Entries.{whole, cut, outputEntries}
+use Rattle.incremental_progress.specs.Parts.{plannedInterval, isKey, durable, intervals, identity}
 use Rattle.incremental_progress.proofs.Lists.{All, All-map, All-of, All-both, All-mapped, All-append, All-flatMap}
 use Rattle.incremental_progress.proofs.Cutting.{Proper, Grown, grown-within, later-proper}
 use Rattle.incremental_progress.proofs.Subtraction.{cuts, cuts-injective, spanOf, cut-out-cuts, any-cuts, holds-within}
@@ -81,12 +83,12 @@ good-cut iv t n = (
     go (some k) = later-at-key at-key at-key
 
 good-publish : {c e : Cut} (k : Option Key) (iv : Interval) (t : Table) → Fits c e t → Covered k iv t → All (Good (iv ∷ [])) (publish k iv t)
-unfolding publish
+unfolding publish outputEntries
 good-publish none iv t f u = (good-identity iv t f (u (λ b e. absurd (none-some e))), tt)
 good-publish (some b) iv t f u = go (isKey (t .last) b) refl (nonEmpty (overlap (own t) (toRange iv))) refl
   where
     go : (d : Bool) → isKey (t .last) b ≡ d → (n : Bool) → nonEmpty (overlap (own t) (toRange iv)) ≡ n
-        → All (Good (iv ∷ [])) (pick d (pick n (cutView (identity t) (toRange iv) ∷ []) []) (identity t ∷ []))
+        → All (Good (iv ∷ [])) (map marked (pick d (pick n (cut (identity t) (toRange iv) ∷ []) []) (whole (identity t) ∷ [])))
     go true e true h = (good-cut iv t h, tt)
     go true e false h = tt
     go false e n h = (good-identity iv t f (u (λ c d. let g : b ≡ c = cc in rw (← g) e)), tt)

@@ -23,7 +23,8 @@ use Rattle.records.specs.Values.{Table, View}
 use Rattle.records.specs.declared.ids.ViewId.{ViewId}
 use Rattle.manifest.specs.Ranges.{own, cutBy, effective}
 use Rattle.incremental_progress.specs.Intervals.{Interval, subtractFrom, cutOut, anyHolds, bit, times}
-use Rattle.incremental_progress.specs.Views.{sameRange, timeOf, cutView, piece, retained, cutRun, shown}
+use Rattle.incremental_progress.specs.Views.{sameRange, shown}
+use Rattle.incremental_progress.proofs.Marked.{onlyTime, cutView, piece, retained, cutRun}
 use Rattle.incremental_progress.proofs.Lists.{All, All-map, All-unmapped, map-alike, flatMap-append, flatMap-alike, flatMap-flatMap, flatMap-map, map-flatMap, take-again}
 use Rattle.incremental_progress.proofs.Cutting.{Grown}
 use Rattle.incremental_progress.proofs.Subtraction.{cuts, same-cuts, spanOf, cut-out-cuts, Sound, cut-out-later, times-cut-out}
@@ -117,7 +118,7 @@ not-just-visible v r e h = go (v .visible) e h
         (≼-antisym (h .ends) (rw (f, end-side-cut) (sooner-≼-right _ _)))
 
 -- the time of a time is that time, so a piece of a piece keeps the view's time
-pub time-again : (id : ViewId) → timeOf (timeOf id) ≡ timeOf id
+pub time-again : (id : ViewId) → onlyTime (onlyTime id) ≡ onlyTime id
 time-again id = ap (λ (l : List ℕ). record { 0 = l }) (take-again 6 (id .0))
 
 pub cut-again : (v : View) (r q : Range) → cutView (cutView v r) q ≡ cutView v q

@@ -21,17 +21,28 @@ drawnOr (got a s) = answer a
 unfoldable pub resultFits : Image → Bool
 resultFits i = all (λ r. leb (length (r .views)) 1024) i && leb (length (image .write i)) 65536
 
--- the checks on an image and a job, each over all input before the next, and the new image
-unfoldable pub committed : Image → Job → List ℕ → Outcome Image
-committed i j ids =
-    checked (joined (imageChecks i) (jobChecks j))
-    (check 8 (destinationIsSource j)
+-- 14 and 15, on what was drawn
+unfoldable pub drawnImage : Drawn Image → Outcome Image
+drawnImage d = andThen (drawnOr d) (λ new. check 15 (resultFits new) (answer new))
+
+-- the checks 8 to 13, each over all input before the next, and what comes after them
+unfoldable pub jobChecked : {A : Type 0} → Image → Job → Outcome A → Outcome A
+jobChecked i j rest =
+    check 8 (destinationIsSource j)
     (check 9 (sourcesThere i j)
     (check 10 (plannedInOrder j)
     (check 11 (outputsInOrder j)
     (check 12 (outputViewsCovered i j)
     (check 13 (retainedMeet i j)
-    (andThen (drawnOr (fillCommit j i (supply ids))) (λ new. check 15 (resultFits new) (answer new)))))))))
+    rest)))))
+
+-- from check 8 on
+unfoldable pub applied : Image → Job → List ℕ → Outcome Image
+applied i j ids = jobChecked i j (drawnImage (fillCommit j i (supply ids)))
+
+-- the checks 4 to 7 cover the image and the job
+unfoldable pub committed : Image → Job → List ℕ → Outcome Image
+committed i j ids = checked (joined (imageChecks i) (jobChecks j)) (applied i j ids)
 
 unfoldable pub commitOutcome : List ℕ → List ℕ → List ℕ → ℕ → Outcome (List ℕ)
 commitOutcome given record′ ids room =

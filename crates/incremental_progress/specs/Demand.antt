@@ -15,7 +15,6 @@ use Rattle.manifest.specs.Checks.{has}
 use Rattle.incremental_progress.specs.Views.{shown}
 use Rattle.incremental_progress.specs.Jobs.{commitRuns, LaterJob, expected}
 use Rattle.incremental_progress.specs.Commit.{commitOutcome}
-use Rattle.incremental_progress.specs.Values.{lastOf}
 use Rattle.incremental_progress.specs.Patterns.{imagePattern, Fits, AlikeBut}
 
 -- "each has its own job, id supply and output buffer": of the buffer, the length is all that counts
@@ -51,6 +50,11 @@ recorded r (answer new) rs = r ∷ rs
 unfoldable pub accepted : List ℕ → List Step → List (List ℕ)
 accepted given [] = []
 accepted given (s ∷ ss) = recorded (s .record′) (commitStep given s) (accepted (handedOn given (commitStep given s)) ss)
+
+abbrev pub lastOf : {A : Type 0} → List A → Option A
+lastOf [] = none
+lastOf (a ∷ []) = some a
+lastOf (a ∷ b ∷ bs) = lastOf (b ∷ bs)
 
 -- "A later record of a job has the same destination, sources and planned ranges, output lists that begin with the earlier
 -- ones, and keeps every completed part completed"

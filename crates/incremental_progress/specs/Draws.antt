@@ -1,51 +1,17 @@
 -- New view ids from the lent supply: cut outputs draw first, in job order, then source runs in image order.
 use Prim.Native.Nat.{ℕ, zero, suc, _/_}
 use mathlib.Core.Bool.{Bool}
-use mathlib.Core.Option.{Option, none, some}
-use mathlib.Core.List.{List, [], _∷_, _++_, map, flatMap}
-use lib.Dec.{eqb}
+use mathlib.Core.Option.{some}
+use mathlib.Core.List.{List, [], _∷_, _++_, flatMap}
 use lib.ListN.{length, take, drop}
 use Rattle.base.specs.Pick.{pick}
-use Rattle.key.specs.Order.{Key, cmpKey, isEqual}
-use Rattle.comparable_range.specs.Range.{Range, nonEmpty, overlap}
-use Rattle.records.specs.Values.{Table, View, Run, Image, Part, Job}
+use Rattle.comparable_range.specs.Range.{Range}
+use Rattle.records.specs.Values.{View, Run, Image, Job}
 use Rattle.records.specs.declared.ids.ViewId.{ViewId}
-use Rattle.manifest.specs.Ranges.{own, effective}
-use Rattle.manifest.specs.Checks.{has}
-use Rattle.incremental_progress.specs.Intervals.{Interval, listed, toRange, cutOut}
-use Rattle.incremental_progress.specs.Sort.{sort}
-use Rattle.incremental_progress.specs.Views.{start, sameRange, cutView}
-use Rattle.incremental_progress.specs.Parts.{isKey, durable, intervals, identity, openKey}
-use Rattle.incremental_progress.specs.Jobs.{others}
-
--- ---- what a commit is to write: a view as it is, or a range of a view under a new id
-pub data Entry : Type 0 where
-  whole : View → Entry
-  cut : View → Range → Entry
-
--- with the drawn bits left open
-abbrev pub marked : Entry → View
-marked (whole v) = v
-marked (cut v r) = cutView v r
-
-abbrev pub pieceEntry : View → Range → Entry
-pieceEntry v r = pick (sameRange r (effective v)) (whole v) (cut v r)
-
-unfoldable pub viewEntries : List Interval → View → List Entry
-viewEntries ivs v = map (pieceEntry v) (cutOut ivs (effective v ∷ []))
-
-unfoldable pub runEntries : List Interval → List View → List Entry
-runEntries ivs vs = flatMap (viewEntries ivs) vs
-
-unfoldable pub outputEntries : Option Key → Interval → Table → List Entry
-outputEntries none iv t = whole (identity t) ∷ []
-outputEntries (some b) iv t =
-    pick (isKey (t .last) b)
-    (pick (nonEmpty (overlap (own t) (toRange iv))) (cut (identity t) (toRange iv) ∷ []) [])
-    (whole (identity t) ∷ [])
-
-unfoldable pub partEntries : Part → List Entry
-partEntries p = flatMap (λ iv. flatMap (outputEntries (openKey p) iv) (p .outputs)) (listed (durable p))
+use Rattle.incremental_progress.specs.Ids.{sameViewId, timeOf}
+use Rattle.incremental_progress.specs.Views.{start}
+use Rattle.incremental_progress.specs.Entries.{Entry, whole, cut, partEntries}
+use Rattle.incremental_progress.specs.Jobs.{leftEntries, newRun}
 
 -- ---- the supply, ten bytes a draw; a rest of fewer is no draw
 abbrev pub Ten : Type 0
@@ -68,10 +34,10 @@ next (got a s) f = f a s
 
 -- the time of an id, and ten new bytes
 abbrev pub newId : ViewId → Ten → ViewId
-newId id ten = record { 0 = take 6 (id .0) ++ ten }
+newId id ten = record { 0 = timeOf id ++ ten }
 
 abbrev pub isOld : ViewId → Ten → Bool
-isOld id ten = isEqual (cmpKey (newId id ten .0) (id .0))
+isOld id ten = sameViewId (newId id ten) id
 
 -- the next ten bytes, drawn again if the id would be the old one
 unfoldable pub draw : ViewId → List Ten → Drawn Ten
@@ -91,10 +57,7 @@ fillAll (e ∷ es) s = next (fill e s) (λ v s. next (fillAll es s) (λ vs s. go
 
 -- ---- the commit
 unfoldable pub fillViews : Job → List View → ℕ → List View → List Ten → Drawn (List View)
-fillViews j outs n vs s =
-    pick (eqb n (j .destination))
-    (next (fillAll (runEntries (intervals (j .parts)) (others (j .parts) vs)) s) (λ ws s. got (sort start (ws ++ outs)) s))
-    (pick (has n (j .sources)) (fillAll (runEntries (intervals (j .parts)) vs) s) (got vs s))
+fillViews j outs n vs s = next (fillAll (leftEntries j n vs) s) (λ ws s. got (newRun start j n ws outs) s)
 
 unfoldable pub fillRuns : Job → List View → List Run → List Ten → Drawn (List Run)
 fillRuns j outs [] s = got [] s

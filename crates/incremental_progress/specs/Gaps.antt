@@ -12,7 +12,8 @@ use Rattle.manifest.specs.Ranges.{effective}
 use Rattle.manifest.specs.Checks.{has}
 use Rattle.incremental_progress.specs.Intervals.{Interval, listed}
 use Rattle.incremental_progress.specs.Parts.{durable, intervals}
-use Rattle.incremental_progress.specs.Draws.{Entry, pieceEntry, partEntries, Ten, Drawn, got, next, fillAll}
+use Rattle.incremental_progress.specs.Entries.{Entry, pieceEntry, partEntries}
+use Rattle.incremental_progress.specs.Draws.{Ten, Drawn, got, next, fillAll}
 
 -- A gap before an unbounded start or after an unbounded end is void: nothing meets it.
 abbrev pub void : Range

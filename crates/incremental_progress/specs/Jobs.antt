@@ -1,21 +1,24 @@
--- A commit over values, after `apply_to_manifest_core`, with drawn ids left open.
+-- A commit over values, after `apply_to_manifest_core`: what each run is to hold.
 use Prim.Native.Nat.{ℕ}
 use mathlib.Core.Path.{_≡_}
 use mathlib.Core.Bool.{Bool, false, _||_}
-use mathlib.Core.List.{List, [], _∷_, map, flatMap}
+use mathlib.Core.List.{List, [], _∷_, _++_, map, flatMap}
 use lib.Dec.{eqb}
 use Rattle.base.specs.Pick.{pick}
-use Rattle.key.specs.Order.{Key, cmpKey, isEqual}
-use Rattle.records.specs.Values.{Table, View, Run, Image, Part, Job}
+use Rattle.key.specs.Order.{Key}
+use Rattle.comparable_range.specs.Cut.{Cut}
+use Rattle.records.specs.Values.{Table, View, Image, Part, Job}
 use Rattle.manifest.specs.Checks.{has}
 use Rattle.incremental_progress.specs.Intervals.{anyHolds}
-use Rattle.incremental_progress.specs.Views.{cutRun, cutDestination}
-use Rattle.incremental_progress.specs.Parts.{intervals, published, listedIn, LaterParts}
+use Rattle.incremental_progress.specs.Sort.{sort}
+use Rattle.incremental_progress.specs.Ids.{sameTableId}
+use Rattle.incremental_progress.specs.Parts.{intervals, listedIn, LaterParts}
+use Rattle.incremental_progress.specs.Entries.{Entry, whole, entryStart, runEntries, partEntries}
 
 -- an output table, by its id
 unfoldable pub among : Table → List Table → Bool
 among t [] = false
-among t (u ∷ us) = isEqual (cmpKey (t .id .0) (u .id .0)) || among t us
+among t (u ∷ us) = sameTableId (t .id) (u .id) || among t us
 
 abbrev pub outputs : List Part → List Table
 outputs ps = flatMap (λ p. p .outputs) ps
@@ -28,13 +31,26 @@ unfoldable pub others : List Part → List View → List View
 others ps [] = []
 others ps (v ∷ vs) = pick (isOutput ps (v .table)) (others ps vs) (v ∷ others ps vs)
 
-unfoldable pub commitViews : Job → ℕ → List View → List View
-commitViews j n vs =
-    pick (eqb n (j .destination)) (cutDestination (intervals (j .parts)) (flatMap published (j .parts)) (others (j .parts) vs))
-    (pick (has n (j .sources)) (cutRun (intervals (j .parts)) vs) vs)
+-- ---- the commit
+-- what is left of a run's views, in the order in which they draw: the destination's views of output tables are replaced, and
+-- a run that is no source stays as it is
+unfoldable pub leftEntries : Job → ℕ → List View → List Entry
+leftEntries j n vs =
+    pick (eqb n (j .destination)) (runEntries (intervals (j .parts)) (others (j .parts) vs))
+    (pick (has n (j .sources)) (runEntries (intervals (j .parts)) vs) (map whole vs))
 
-unfoldable pub commitRuns : Job → Image → Image
-commitRuns j runs = map (λ r. record { id = r .id; views = commitViews j (r .id) (r .views) }) runs
+-- the destination also gets the outputs, and is sorted
+unfoldable pub newRun : {A : Type 0} → (A → Cut) → Job → ℕ → List A → List A → List A
+newRun start j n left outs = pick (eqb n (j .destination)) (sort start (left ++ outs)) left
+
+-- a run of the new image, with drawn ids left open
+pub record OpenRun : Type 0 where
+  pub id : ℕ
+  pub entries : List Entry
+
+unfoldable pub commitRuns : Job → Image → List OpenRun
+commitRuns j runs =
+    map (λ r. record { id = r .id; entries = newRun entryStart j (r .id) (leftEntries j (r .id) (r .views)) (flatMap partEntries (j .parts)) }) runs
 
 -- ---- later records of a job
 pub record LaterJob (i j : Job) : Type 0 where

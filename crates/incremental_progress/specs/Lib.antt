@@ -1,14 +1,14 @@
 pub mod Intervals
 pub mod Sort
+pub mod Ids
 pub mod Views
 pub mod Parts
+pub mod Entries
 pub mod Jobs
 pub mod Checks
 pub mod Draws
 pub mod Gaps
 pub mod Commit
-pub mod Ids
-pub mod Values
 pub mod Patterns
 pub mod Laws
 pub mod Demand

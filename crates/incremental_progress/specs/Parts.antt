@@ -6,13 +6,11 @@ use mathlib.Core.Option.{Option, none, some}
 use mathlib.Core.List.{List, [], _∷_, _++_, flatMap}
 use Rattle.base.specs.Pick.{pick}
 use Rattle.key.specs.Order.{Key, cmpKey, isEqual}
-use Rattle.comparable_range.specs.Range.{Bound, unbounded, included, excluded, Range, nonEmpty, holds, overlap}
+use Rattle.comparable_range.specs.Range.{Bound, unbounded, included, excluded, Range, holds}
 use Rattle.records.specs.Values.{Table, View, Part}
-use Rattle.records.specs.declared.ids.TableId.{TableId}
-use Rattle.records.specs.declared.ids.ViewId.{ViewId}
 use Rattle.manifest.specs.Ranges.{own}
-use Rattle.incremental_progress.specs.Intervals.{Interval, listed, toRange, bit}
-use Rattle.incremental_progress.specs.Views.{cutView}
+use Rattle.incremental_progress.specs.Intervals.{Interval, listed, bit}
+use Rattle.incremental_progress.specs.Ids.{publishingId}
 
 -- A planned range, which starts included or unbounded and ends excluded or unbounded, as an interval.
 abbrev pub keyOf : Bound → Option Key
@@ -47,28 +45,13 @@ unfoldable pub intervals : List Part → List Interval
 intervals ps = flatMap (λ p. listed (durable p)) ps
 
 -- ---- the views that publish it
--- a view id with the bits of a table id
-abbrev pub viewIdOf : TableId → ViewId
-viewIdOf id = record { 0 = id .0 }
-
 -- a view of a whole table
 abbrev pub identity : Table → View
-identity t = record { id = viewIdOf (t .id); table = t; visible = none }
-
--- An output that ends at the last written key b is cut to the interval, and left out if nothing of it is left.
-unfoldable pub publish : Option Key → Interval → Table → List View
-publish none iv t = identity t ∷ []
-publish (some b) iv t =
-    pick (isKey (t .last) b)
-    (pick (nonEmpty (overlap (own t) (toRange iv))) (cutView (identity t) (toRange iv) ∷ []) [])
-    (identity t ∷ [])
+identity t = record { id = publishingId (t .id); table = t; visible = none }
 
 -- the key at which outputs are cut: none of a completed part's
 unfoldable pub openKey : Part → Option Key
 openKey p = pick (p .completed) none (lastWritten (p .outputs))
-
-unfoldable pub published : Part → List View
-published p = flatMap (λ iv. flatMap (publish (openKey p) iv) (p .outputs)) (listed (durable p))
 
 -- ---- how many of the listed outputs of a kind hold a key, by their own ranges
 unfoldable pub listings : (Table → Bool) → Key → List Table → ℕ

@@ -1,12 +1,14 @@
 -- The bytes of an image of which drawn bits are left open. Only the last 10 bytes of a drawn id are.
-use Prim.Native.Nat.{ℕ, zero, suc, _-_}
+use Prim.Native.Nat.{ℕ, zero, suc}
 use mathlib.Core.Option.{Option, none, some}
 use mathlib.Core.List.{List, [], _∷_, _++_, map, flatMap}
 use lib.ListN.{length}
-use Rattle.records.specs.Values.{View, Run, Image}
+use Rattle.records.specs.Values.{View}
 use Rattle.records.specs.Layouts.{view, upTo}
 use Rattle.records.specs.Spans.{runHead}
-use Rattle.records.specs.declared.ids.ViewId.{ViewId}
+use Rattle.incremental_progress.specs.Ids.{NewId, kept, drawn}
+use Rattle.incremental_progress.specs.Entries.{Entry, entryView, entryId}
+use Rattle.incremental_progress.specs.Jobs.{OpenRun}
 
 -- each byte is known, or left open
 abbrev pub Pattern : Type 0
@@ -19,18 +21,23 @@ unfoldable pub unknown : ℕ → Pattern
 unknown zero = []
 unknown (suc n) = none ∷ unknown n
 
--- an id of 16 bytes is known whole; of a drawn id the 6 bytes of time are, and 10 are open
-unfoldable pub idPattern : ViewId → Pattern
-idPattern id = known (id .0) ++ unknown (16 - length (id .0))
+-- what is written of a view after its id
+abbrev pub afterId : View → List ℕ
+afterId v = view .write (record { id = record { 0 = [] }; table = v .table; visible = v .visible })
+
+-- of a drawn id the 6 bytes of time are known, and 10 are open
+unfoldable pub idPattern : NewId → Pattern
+idPattern (kept id) = known (id .0)
+idPattern (drawn time) = known time ++ unknown 10
 
 -- a view's id, and what is written after it
-unfoldable pub viewPattern : View → Pattern
-viewPattern v = idPattern (v .id) ++ known (view .write (record { id = record { 0 = [] }; table = v .table; visible = v .visible }))
+unfoldable pub entryPattern : Entry → Pattern
+entryPattern e = idPattern (entryId e) ++ known (afterId (entryView e))
 
-unfoldable pub runPattern : Run → Pattern
-runPattern r = known (runHead .write (r .id, length (r .views))) ++ flatMap viewPattern (r .views)
+unfoldable pub runPattern : OpenRun → Pattern
+runPattern r = known (runHead .write (r .id, length (r .entries))) ++ flatMap entryPattern (r .entries)
 
-unfoldable pub imagePattern : Image → Pattern
+unfoldable pub imagePattern : List OpenRun → Pattern
 imagePattern i = known (upTo 1 64 .write (length i)) ++ flatMap runPattern i
 
 -- bytes that are as long as a pattern, and equal where it is known

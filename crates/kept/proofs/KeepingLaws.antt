@@ -8,7 +8,8 @@ use lib.ListN.{length, drop, length-append}
 use lib.Dec.{T}
 use Rattle.comparable_range.specs.Range.{Range}
 use Rattle.records.specs.Values.{View}
-use Rattle.incremental_progress.specs.Draws.{Ten, Entry, Drawn, used-up, got, supply, next, fillAll}
+use Rattle.incremental_progress.specs.Draws.{Ten, Drawn, used-up, got, supply, next, fillAll}
+use Rattle.incremental_progress.specs.Entries.{Entry}
 use Rattle.incremental_progress.proofs.FilledViews.{fill-append}
 use Rattle.drawn.specs.Supply.{isDrawn, viewsOf}
 use Rattle.drawn.proofs.Adding.{joinTo, join-none, join-filled}

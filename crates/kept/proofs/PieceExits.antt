@@ -23,7 +23,8 @@ use Rattle.records.specs.Spans.{viewIn}
 use Rattle.manifest.specs.Ranges.{effective}
 use Rattle.manifest.specs.declared.ranges.RangeSpan.{RangeSpan}
 use Rattle.incremental_progress.specs.Intervals.{listed}
-use Rattle.incremental_progress.specs.Draws.{Ten, Entry, cut, Drawn, used-up, got, supply, draw, drawnView, fillAll}
+use Rattle.incremental_progress.specs.Draws.{Ten, Drawn, used-up, got, supply, draw, drawnView, fillAll}
+use Rattle.incremental_progress.specs.Entries.{Entry, cut}
 use Rattle.incremental_progress.specs.declared.Draw.{Draw}
 use Rattle.incremental_progress.specs.declared.Draw.the-variants.{At, UsedUp}
 use Rattle.drawn.specs.Supply.{idAt, DrawFound, isDrawn, viewsOf}

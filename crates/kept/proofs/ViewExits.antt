@@ -19,7 +19,8 @@ use Rattle.records.specs.Spans.{viewIn}
 use Rattle.records.proofs.Many.{Ahead}
 use Rattle.records.proofs.Walk.{Walk, walk-begin, walk-all, walk-here, walk-ahead, walk-onward}
 use Rattle.manifest.specs.Ranges.{effective}
-use Rattle.incremental_progress.specs.Draws.{Entry, supply, fillAll}
+use Rattle.incremental_progress.specs.Draws.{supply, fillAll}
+use Rattle.incremental_progress.specs.Entries.{Entry}
 use Rattle.incremental_progress.specs.Gaps.{pieces, gapEntries, gapsMet, runGaps}
 use Rattle.drawn.specs.Supply.{isDrawn, viewsOf}
 use Rattle.progress.specs.Tables.{gapsIn}

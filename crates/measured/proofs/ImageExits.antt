@@ -21,7 +21,8 @@ use Rattle.records.proofs.HeadExits.{image-is}
 use Rattle.records.proofs.PartExits.{jobOf, job-is}
 use Rattle.manifest.proofs.ImageExits.{count-most, first-place}
 use Rattle.incremental_progress.specs.Parts.{intervals}
-use Rattle.incremental_progress.specs.Draws.{Ten, Drawn, used-up, next, supply, fillAll, partEntries}
+use Rattle.incremental_progress.specs.Draws.{Ten, Drawn, used-up, next, supply, fillAll}
+use Rattle.incremental_progress.specs.Entries.{partEntries}
 use Rattle.incremental_progress.specs.Draws as draws
 use Rattle.incremental_progress.specs.Gaps.{gaps, fillParts, gapRuns, gapCommit}
 use Rattle.incremental_progress.proofs.FilledViews.{fill-parts, parts-length}

@@ -23,7 +23,8 @@ use Rattle.records.proofs.Many.{Ahead}
 use Rattle.records.proofs.Walk.{Walk, walk-begin, walk-all, walk-here, walk-ahead, walk-onward}
 use Rattle.incremental_progress.specs.Intervals.{Interval}
 use Rattle.incremental_progress.specs.Parts.{durable}
-use Rattle.incremental_progress.specs.Draws.{Ten, Drawn, used-up, supply, next, partEntries, fillAll}
+use Rattle.incremental_progress.specs.Draws.{Ten, Drawn, used-up, supply, next, fillAll}
+use Rattle.incremental_progress.specs.Entries.{partEntries}
 use Rattle.incremental_progress.specs.Draws as draws
 use Rattle.incremental_progress.specs.Gaps.{Placed, inGap, byGap, ofInterval, fillParts}
 use Rattle.drawn.specs.Supply.{viewBytes, viewsOf, isDrawn}

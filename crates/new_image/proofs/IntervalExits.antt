@@ -18,7 +18,8 @@ use Rattle.records.specs.Values.{View, Part}
 use Rattle.records.specs.Layouts.{part}
 use Rattle.incremental_progress.specs.Intervals.{Interval, listed}
 use Rattle.incremental_progress.specs.Parts.{durable}
-use Rattle.incremental_progress.specs.Draws.{partEntries, fillAll, supply}
+use Rattle.incremental_progress.specs.Draws.{fillAll, supply}
+use Rattle.incremental_progress.specs.Entries.{partEntries}
 use Rattle.incremental_progress.specs.Draws as draws
 use Rattle.incremental_progress.specs.Gaps.{Placed, inGap, placed}
 use Rattle.drawn.specs.Supply.{viewBytes, viewsOf, PutPast}

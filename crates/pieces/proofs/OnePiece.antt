@@ -29,7 +29,7 @@ use Rattle.records.specs.Values.{View}
 use Rattle.manifest.specs.Ranges.{effective}
 use Rattle.incremental_progress.specs.Intervals.{listed}
 use Rattle.incremental_progress.specs.Views.{sameRange}
-use Rattle.incremental_progress.specs.Draws.{Entry, whole, cut, pieceEntry}
+use Rattle.incremental_progress.specs.Entries.{Entry, whole, cut, pieceEntry}
 use Rattle.pieces.specs.Pieces.{allShown, wholeSides, pieceBy, pieceOf, entryOf}
 use Rattle.pieces.specs.declared.piece.Piece.{Piece}
 use Rattle.pieces.specs.declared.piece.Piece.the-variants.{Nothing, Whole, Cut}

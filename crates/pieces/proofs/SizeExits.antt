@@ -23,7 +23,8 @@ use Rattle.records.proofs.Walk.{Walk, walk-begin, walk-all, walk-here, walk-ahe
 use Rattle.manifest.specs.Ranges.{effective}
 use Rattle.manifest.specs.declared.ranges.RangeSpan.{RangeSpan}
 use Rattle.incremental_progress.specs.Intervals.{listed}
-use Rattle.incremental_progress.specs.Draws.{Entry, pieceEntry, used-up, supply, draw, drawnView, fillAll}
+use Rattle.incremental_progress.specs.Draws.{used-up, supply, draw, drawnView, fillAll}
+use Rattle.incremental_progress.specs.Entries.{Entry, pieceEntry}
 use Rattle.incremental_progress.specs.Draws as draws
 use Rattle.incremental_progress.specs.Gaps.{pieces, gapEntries}
 use Rattle.incremental_progress.specs.declared.Draw.{Draw}

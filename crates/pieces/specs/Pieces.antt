@@ -10,7 +10,7 @@ use Rattle.comparable_range.specs.declared.Sides.{Sides}
 use Rattle.comparable_range.specs.declared.Sides.the-variants.{Nothing as NoSides, From}
 use Rattle.records.specs.Values.{View}
 use Rattle.manifest.specs.Ranges.{effective}
-use Rattle.incremental_progress.specs.Draws.{Entry, whole, cut}
+use Rattle.incremental_progress.specs.Entries.{Entry, whole, cut}
 use Rattle.pieces.specs.declared.piece.Piece.{Piece}
 use Rattle.pieces.specs.declared.piece.Piece.the-variants.{Nothing, Whole, Cut}
 

@@ -5,7 +5,7 @@ use mathlib.Core.Path.{_≡_, sym, ap, _∙_}
 use mathlib.Core.List.{List, [], _∷_, _++_, flatMap}
 use lib.ListN.{length, drop, drop-of-length-le}
 use lib.Seq.{drop-drop, drop-at}
-use Rattle.incremental_progress.specs.Draws.{Entry}
+use Rattle.incremental_progress.specs.Entries.{Entry}
 
 pub next-lot : {A : Type 0} (es : A → List Entry) (all seen tail : List A) (a : A) (k : ℕ) → length seen ≡ k → all ≡ seen ++ (a ∷ tail) → flatMap es (drop k all) ≡ es a ++ flatMap es (drop (k + 1) all)
 unfolding flatMap

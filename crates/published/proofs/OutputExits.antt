@@ -31,7 +31,7 @@ use Rattle.manifest.specs.Spans.{EffectiveFound}
 use Rattle.manifest.specs.declared.ranges.RangeSpan.{RangeSpan}
 use Rattle.incremental_progress.specs.Intervals.{Interval, toRange}
 use Rattle.incremental_progress.specs.Parts.{isKey}
-use Rattle.incremental_progress.specs.Draws.{outputEntries}
+use Rattle.incremental_progress.specs.Entries.{outputEntries}
 use Rattle.progress.specs.Spans.{intervalIn}
 use Rattle.published.specs.Outputs.{OutputAt, OwnFound, LimitsInside, openIn, insideAs, publishedAs, entriesAs}
 use Rattle.published.specs.declared.output.OutputHeld.{OutputHeld}

@@ -29,7 +29,7 @@ use Rattle.records.proofs.RecordLayouts.{outputCount-form}
 use Rattle.records.proofs.PartExits.{part-is}
 use Rattle.incremental_progress.specs.Intervals.{Interval}
 use Rattle.incremental_progress.specs.Parts.{keyOf, isKey, upToKey, durable, lastWritten, openKey}
-use Rattle.incremental_progress.specs.Draws.{outputEntries, partEntries}
+use Rattle.incremental_progress.specs.Entries.{outputEntries, partEntries}
 use Rattle.progress.specs.Spans.{lastIn, OutputsPassed, durableFrom, intervalIn, durableIn, DurableFound}
 use Rattle.progress.specs.declared.parts.LastWritten.{LastWritten}
 use Rattle.progress.specs.declared.parts.Durable.{Durable}

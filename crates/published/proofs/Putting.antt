@@ -9,7 +9,8 @@ use lib.Dec.{T}
 use Rattle.base.specs.Splice.{splice, splice-none, splice-splice, length-splice}
 use Rattle.records.specs.Form.{writeMany}
 use Rattle.records.specs.Values.{View}
-use Rattle.incremental_progress.specs.Draws.{Ten, Entry, Drawn, used-up, got, supply, next, fillAll}
+use Rattle.incremental_progress.specs.Draws.{Ten, Drawn, used-up, got, supply, next, fillAll}
+use Rattle.incremental_progress.specs.Entries.{Entry}
 use Rattle.incremental_progress.proofs.FilledViews.{fill-append}
 use Rattle.drawn.specs.Supply.{viewBytes, isDrawn, viewsOf, PutPast}
 use Rattle.drawn.specs.declared.PutTo.{PutTo}

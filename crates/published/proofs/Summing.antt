@@ -21,7 +21,8 @@ use Rattle.records.specs.declared.parts.JobRead.{JobRead}
 use Rattle.records.specs.declared.parts.JobRead.the-variants.{At as JobAt, Stop as JobStop}
 use Rattle.records.proofs.PartExits.{jobOf, job-is}
 use Rattle.records.proofs.Walk.{Walk, walk-begin, walk-all, walk-here, walk-ahead, walk-onward}
-use Rattle.incremental_progress.specs.Draws.{Entry, Drawn, supply, fillAll, partEntries}
+use Rattle.incremental_progress.specs.Draws.{Drawn, supply, fillAll}
+use Rattle.incremental_progress.specs.Entries.{Entry, partEntries}
 use Rattle.drawn.specs.Supply.{SizedFound}
 use Rattle.drawn.specs.declared.Sized.{Sized}
 use Rattle.drawn.specs.declared.Sized.the-variants.{At, UsedUp}

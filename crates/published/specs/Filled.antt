@@ -11,7 +11,8 @@ use Rattle.records.specs.Layouts.{isThere, table, part}
 use Rattle.records.specs.Spans.{tableIn}
 use Rattle.records.specs.declared.tables.TableSpan.{TableSpan}
 use Rattle.incremental_progress.specs.Parts.{durable}
-use Rattle.incremental_progress.specs.Draws.{Drawn, supply, fillAll, partEntries}
+use Rattle.incremental_progress.specs.Draws.{Drawn, supply, fillAll}
+use Rattle.incremental_progress.specs.Entries.{partEntries}
 use Rattle.drawn.specs.Supply.{PutPast}
 use Rattle.progress.specs.Spans.{intervalIn}
 use Rattle.published.specs.Outputs.{entriesIn, cutEntries}

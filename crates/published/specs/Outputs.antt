@@ -17,7 +17,7 @@ use Rattle.manifest.specs.Ranges.{own}
 use Rattle.manifest.specs.declared.ranges.RangeSpan.{RangeSpan}
 use Rattle.incremental_progress.specs.Intervals.{Interval, toRange}
 use Rattle.incremental_progress.specs.Parts.{isKey, identity}
-use Rattle.incremental_progress.specs.Draws.{Entry, whole, cut, outputEntries}
+use Rattle.incremental_progress.specs.Entries.{Entry, whole, cut, outputEntries}
 use Rattle.progress.specs.Spans.{intervalIn, BoundsInside}
 use Rattle.published.specs.declared.output.OutputHeld.{OutputHeld}
 use Rattle.published.specs.declared.output.Limits.{Limits}

@@ -26,7 +26,8 @@ use Rattle.records.proofs.HeadExits.{image-is}
 use Rattle.records.proofs.PartExits.{job-is}
 use Rattle.manifest.proofs.ImageExits.{first-place}
 use Rattle.incremental_progress.specs.Parts.{intervals}
-use Rattle.incremental_progress.specs.Draws.{Drawn, used-up, next, supply, fillAll, partEntries}
+use Rattle.incremental_progress.specs.Draws.{Drawn, used-up, next, supply, fillAll}
+use Rattle.incremental_progress.specs.Entries.{partEntries}
 use Rattle.incremental_progress.specs.Draws as draws
 use Rattle.incremental_progress.specs.Gaps.{gaps, gapRuns, gapCommit}
 use Rattle.drawn.specs.Supply.{SizedFound, isDrawn}

@@ -1,41 +1,41 @@
--- Demand 3 over values: lists of commits on images, whatever ids they draw.
+-- Demand 3 over values: lists of commits on images, whatever ids they draw. What the proof of demand 3 on bytes rests on.
+-- Assumes nothing.
 use Prim.Native.Nat.{ℕ}
 use mathlib.Core.Path.{_≡_}
 use mathlib.Core.Bool.{Bool}
 use mathlib.Core.Option.{Option, none, some}
 use mathlib.Core.List.{List, [], _∷_, map}
 use lib.Dec.{eqb}
-use Rattle.base.specs.Outcome.{Outcome, stop, answer, check}
+use Rattle.base.specs.Outcome.{Outcome, answer}
 use Rattle.base.specs.Pick.{pick}
 use Rattle.key.specs.Order.{Key}
-use Rattle.records.specs.Values.{Table, View, Run, Image, Job}
+use Rattle.records.specs.Values.{Table, Run, Image, Job}
 use Rattle.manifest.specs.Checks.{has, checked, joined, imageChecks, jobChecks}
 use Rattle.incremental_progress.specs.Views.{shown}
-use Rattle.incremental_progress.specs.Jobs.{commitRuns, LaterJob, expected}
-use Rattle.incremental_progress.specs.Checks.{destinationIsSource, sourcesThere, plannedInOrder, outputsInOrder, outputViewsCovered}
-use Rattle.incremental_progress.specs.Ids.{FillsImage, ClosedImage}
+use Rattle.incremental_progress.specs.Jobs.{LaterJob, expected}
+use Rattle.incremental_progress.specs.Draws.{Ten, got, fillCommit}
+use Rattle.incremental_progress.specs.Commit.{jobChecked}
+use Rattle.incremental_progress.specs.Demand.{lastOf}
+use Rattle.incremental_progress.proofs.Marked.{markedRuns, FillsImage, ClosedImage, FullParts}
 
 -- the checks that a commit passes before it draws, and the new image with drawn ids left open
 unfoldable pub markedOutcome : Image → Job → Outcome Image
-markedOutcome i j =
-    checked (joined (imageChecks i) (jobChecks j))
-    (check 8 (destinationIsSource j)
-    (check 9 (sourcesThere i j)
-    (check 10 (plannedInOrder j)
-    (check 11 (outputsInOrder j)
-    (check 12 (outputViewsCovered i j)
-    (answer (commitRuns j i)))))))
+markedOutcome i j = checked (joined (imageChecks i) (jobChecks j)) (jobChecked i j (answer (markedRuns j i)))
+
+-- the commit with the ids that it draws is the marked commit with its open bits filled
+abbrev pub CommitFills : Type 0
+CommitFills =
+    (j : Job) (i new : Image) (s rest : List Ten)
+    → FullParts (j .parts)
+    → ClosedImage i
+    → fillCommit j i s ≡ got new rest
+    → FillsImage (markedRuns j i) new
 
 -- each a later record of the one before
 pub data Chain : List Job → Type 0 where
   none-yet : Chain []
   only : {j : Job} → Chain (j ∷ [])
   and-then : {i j : Job} {js : List Job} → LaterJob i j → Chain (j ∷ js) → Chain (i ∷ j ∷ js)
-
-abbrev pub lastOf : {A : Type 0} → List A → Option A
-lastOf [] = none
-lastOf (a ∷ []) = some a
-lastOf (a ∷ b ∷ bs) = lastOf (b ∷ bs)
 
 -- a list of commits: the image before, the records accepted, the image after
 pub data Steps : Image → List Job → Image → Type 0 where
@@ -56,7 +56,7 @@ pub record StandsAs (first last : Image) (j : Job) : Type 0 where
   -- each run shows each key through each kind of table as often as the last accepted record has it show
   pub shows : (q : Table → Bool) (x : Key) → map (λ r. shown q x (r .views)) last ≡ map (λ r. expected j (r .id) q x (shown q x (r .views))) first
   -- the image is the one that this record, committed alone, makes of the first image, but for drawn bits
-  pub alone : FillsImage (commitRuns j first) last
+  pub alone : FillsImage (markedRuns j first) last
 
 -- with none accepted, the first image stands
 abbrev pub StandsBy : Image → Image → Option Job → Type 0
