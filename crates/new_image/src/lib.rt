@@ -1,4 +1,4 @@
-// The image that a commit makes: measured, and then written into the lent buffer.
+// The pieces that are kept of a run's views, written into the lent buffer; in the destination, with the outputs between them.
 mod destination;
 mod entry;
 mod select;

@@ -1,4 +1,4 @@
-// What of a run's views lies in the gaps between durable intervals: measured, kept as numbers, and written.
+// What of a run's views lies in the gaps between durable intervals: found gap by gap, and measured.
 mod held;
 mod piece;
 mod sides;
