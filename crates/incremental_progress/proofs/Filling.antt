@@ -13,15 +13,17 @@ use Rattle.key.specs.Order.{Key}
 use Rattle.comparable_range.specs.Range.{Range, nonEmpty, overlap}
 use Rattle.comparable_range.specs.Cut.{cutAtMost}
 use Rattle.records.specs.Values.{Table, View, Run, Image, Part, Job}
+use Rattle.records.specs.declared.ids.ViewId.{ViewId}
 use Rattle.manifest.specs.Ranges.{own, effective}
 use Rattle.manifest.specs.Checks.{has}
 use Rattle.incremental_progress.specs.Intervals.{Interval, listed, toRange, cutOut}
 use Rattle.incremental_progress.specs.Sort.{insert, sort}
 use Rattle.incremental_progress.specs.Views.{start, sameRange}
-use Rattle.incremental_progress.proofs.Marked.{cutView, piece, retained, cutRun, cutDestination, publish, published, markedViews, markedRuns, marked, Fills, kept, drawn, Each, no-more, and, same-id, FillsImage, Closed, AllClosed, none-left, one-more, ClosedImage, no-runs, one-run, FullTables, no-tables, one-table, FullParts, no-parts, one-part}
+use Rattle.incremental_progress.proofs.Marked.{onlyTime, cutView, piece, retained, cutRun, cutDestination, publish, published, markedViews, markedRuns, marked, Fills, kept, drawn, Each, no-more, and, same-id, FillsImage, Closed, AllClosed, none-left, one-more, ClosedImage, no-runs, one-run, FullTables, no-tables, one-table, FullParts, no-parts, one-part}
 use Rattle.incremental_progress.specs.Parts.{isKey, durable, intervals, identity, openKey}
 use Rattle.incremental_progress.specs.Jobs.{isOutput, others, leftEntries, newRun, OpenRun, commitRuns}
-use Rattle.incremental_progress.specs.Draws.{Ten, Drawn, used-up, got, next, draw, drawnView, fill, fillAll, fillViews, fillRuns, fillCommit}
+use Rattle.incremental_progress.specs.Draws.{Ten, Drawn, used-up, got, next, newId, draw, drawnView, fill, fillAll, fillViews, fillRuns, fillCommit}
+use Rattle.incremental_progress.specs.Ids.{timeLength, timeOf}
 use Rattle.incremental_progress.specs.Entries.{Entry, whole, cut, entryStart, pieceEntry, viewEntries, runEntries, outputEntries, partEntries}
 use Rattle.incremental_progress.proofs.Values.{CommitFills}
 use Rattle.incremental_progress.proofs.Lists.{All, All-of, All-append, All-mapped, map-append, map-flatMap, take-front}
@@ -203,11 +205,14 @@ through used-up f b t e = let z : _≡_ {A = ℕ} 0 1 = cc in absurd (omega arit
 through (got a s) f b t e = record { value = a; rest = s; first = refl; second = e }
 
 -- ten new bytes after the time of a whole id leave the time as it was
+pub time-kept : (id : ViewId) (ten : Ten) → length (id .0) ≡ 16 → timeOf (newId id ten) ≡ timeOf id
+time-kept id ten h = take-front timeLength (id .0) ten (omega arith)
+
 drawn-fills : (v : View) (r : Range) (ten : Ten) → Closed v → Fills (cutView v r) (drawnView v r ten)
 drawn-fills v r ten c =
     let h = c .full in
-    let d : Fills (record { id = record { 0 = take 6 (take 6 (v .id .0) ++ ten) }; table = v .table; visible = some r }) (drawnView v r ten) = drawn in
-    rw (take-front 6 (v .id .0) ten (omega arith)) at d
+    let d : Fills (record { id = onlyTime (newId (v .id) ten); table = v .table; visible = some r }) (drawnView v r ten) = drawn in
+    rw (time-kept (v .id) ten h) at d
 
 entry-fills : (e : Entry) → Full e → (s : List Ten) (v : View) (t : List Ten) → fill e s ≡ got v t → Fills (marked e) v
 entry-fills (whole w) c s v t e = let f : w ≡ v = cc in rw f kept

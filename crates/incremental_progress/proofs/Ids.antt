@@ -1,30 +1,33 @@
 -- Images with drawn ids left open: a commit leaves open what the commit of a filled image does, and neither the checks nor
 -- what is shown depends on ids.
 -- Assumes nothing.
-use Prim.Native.Nat.{ℕ}
+use Prim.Native.Nat.{ℕ, _<_}
 use native.Mathlib.Omega.{arith}
 use mathlib.Core.Path.{_≡_, refl, sym, ap, ap₂, _∙_}
 use mathlib.Core.Bool.{Bool, true, false, not, _||_}
 use mathlib.Core.Option.{Option, none, some}
 use mathlib.Core.List.{List, [], _∷_, _++_, map, flatMap, cons≢nil, head-eq-of-cons-eq, tail-eq-of-cons-eq}
 use lib.Dec.{eqb}
+use lib.ListN.{length, length-take}
 use Rattle.base.specs.Pick.{pick}
 use Rattle.key.specs.Order.{Key}
 use Rattle.comparable_range.specs.Range.{Range}
 use Rattle.comparable_range.specs.Cut.{cutAtMost}
 use Rattle.records.specs.Values.{Table, View, Run, Image, Part, Job}
+use Rattle.records.specs.declared.ids.ViewId.{ViewId}
 use Rattle.manifest.specs.Ranges.{effective}
 use Rattle.manifest.specs.Checks.{all, has, tablePasses, ascend, starts, imageChecks}
 use Rattle.incremental_progress.specs.Intervals.{Interval, cutOut}
 use Rattle.incremental_progress.specs.Sort.{insert, sort}
 use Rattle.incremental_progress.specs.Views.{start, sameRange, shown}
+use Rattle.incremental_progress.specs.Ids.{timeOf}
 use Rattle.incremental_progress.specs.Entries.{whole, cut}
 use Rattle.incremental_progress.proofs.Marked.{marked, piece, retained, cutRun, cutDestination, published, markedViews, markedRuns, blank, Fills, kept, drawn, Each, no-more, and, same-id, FillsImage, AllClosed, none-left, one-more, ClosedImage, no-runs, one-run}
 use Rattle.incremental_progress.specs.Parts.{intervals}
 use Rattle.incremental_progress.specs.Jobs.{isOutput, others}
 use Rattle.incremental_progress.specs.Checks.{covered, outputViewsCovered}
 use Rattle.incremental_progress.proofs.Values.{beside}
-use Rattle.incremental_progress.proofs.Lists.{take-again, take-at-most}
+use Rattle.incremental_progress.proofs.Lists.{take-again}
 use Rattle.incremental_progress.proofs.Checks.{Checked}
 
 module _ {A : Type 0} {R : A → A → Type 0} where
@@ -49,7 +52,7 @@ fills-piece r (drawn {v}) = go (sameRange r (effective v))
   where
     go : (b : Bool) → Fills (marked (pick b (whole (blank v)) (cut (blank v) r))) (marked (pick b (whole v) (cut v r)))
     go true = drawn
-    go false = rw (take-again 6 (v .id .0)) kept
+    go false = rw (take-again) kept
 
 fills-retained : (ivs : List Interval) (m v : View) → Fills m v → Each Fills (retained ivs m) (retained ivs v)
 unfolding retained effective
@@ -121,7 +124,7 @@ fills-commit j (and (same-id {n} a) b) = and (same-id (fills-views j n a)) (fill
 fills-trans : {m v w : View} → Fills m v → Fills v w → Fills m w
 fills-trans kept g = g
 fills-trans drawn kept = drawn
-fills-trans drawn (drawn {v}) = rw (take-again 6 (v .id .0)) drawn
+fills-trans drawn (drawn {v}) = rw (take-again) drawn
 
 views-trans : {ms vs ws : List View} → Each Fills ms vs → Each Fills vs ws → Each Fills ms ws
 views-trans no-more no-more = no-more
@@ -142,7 +145,7 @@ bare r = record { id = r .id; views = map blank (r .views) }
 bare-views : {ms vs : List View} → Each Fills ms vs → map blank ms ≡ map blank vs
 bare-views no-more = refl
 bare-views (and kept a) = rw (bare-views a)
-bare-views (and (drawn {v}) a) = rw (take-again 6 (v .id .0), bare-views a)
+bare-views (and (drawn {v}) a) = rw (take-again, bare-views a)
 
 bare-image : {ms rs : Image} → FillsImage ms rs → map bare ms ≡ map bare rs
 bare-image no-more = refl
@@ -207,11 +210,15 @@ pub image-ids : {ms rs : Image} → FillsImage ms rs → map (λ (r : Run). r .i
 image-ids no-more = refl
 image-ids (and (same-id a) b) = rw (image-ids b)
 
+-- the time of an id is no id
+pub time-short : (id : ViewId) → length (timeOf id) < 16
+time-short id = rw length-take (omega arith)
+
 -- a view with its bits is filled by itself only
 pub closed-views : {ms vs : List View} → Each Fills ms vs → AllClosed ms → vs ≡ ms
 closed-views no-more none-left = refl
 closed-views (and kept a) (one-more c d) = rw (closed-views a d)
-closed-views (and (drawn {v}) a) (one-more c d) = let e = c .full in let h = take-at-most 6 (v .id .0) in absurd (omega arith)
+closed-views (and (drawn {v}) a) (one-more c d) = let e = c .full in let h = time-short (v .id) in absurd (omega arith)
 
 pub closed-image : {ms rs : Image} → FillsImage ms rs → ClosedImage ms → rs ≡ ms
 closed-image no-more no-runs = refl

@@ -116,8 +116,3 @@ take-again n l = take-take n n l (omega arith)
 
 pub take-front : {A : Type 0} (n : ℕ) (l m : List A) → n ≤ length l → take n (take n l ++ m) ≡ take n l
 take-front n l m h = take-at (take n l) m n (length-take-le n l h)
-
-pub take-at-most : {A : Type 0} (n : ℕ) (l : List A) → length (take n l) ≤ n
-take-at-most zero l = omega arith
-take-at-most (suc n) [] = omega arith
-take-at-most (suc n) (x ∷ l) = let h = take-at-most n l in omega arith

@@ -5,8 +5,7 @@ use native.Mathlib.Omega.{arith}
 use mathlib.Core.Path.{_≡_, refl, sym, ap, _∙_}
 use mathlib.Core.Bool.{Bool, true}
 use mathlib.Core.List.{List, [], _∷_, _++_, map, append-nil}
-use lib.ListN.{length, take, length-append, length-map}
-use lib.Seq.{length-take-le}
+use lib.ListN.{length, length-append, length-take, length-map}
 use lib.Dec.{leb}
 use borrow.Author.Tests.{leb-true, le-leb}
 use Rattle.base.specs.Bytes.{Bytes}
@@ -16,12 +15,13 @@ use Rattle.format.specs.Got as found
 use Rattle.format.specs.Whole.{whole as readWhole}
 use Rattle.records.specs.Values.{View, Run, Image, Job}
 use Rattle.records.specs.Layouts.{image, job}
+use Rattle.records.specs.declared.ids.ViewId.{ViewId}
 use Rattle.records.proofs.RecordLayouts.{image-layout, job-layout}
 use Rattle.manifest.specs.Checks.{all, has}
 use Rattle.manifest.proofs.Given.{whole-read}
 use Rattle.incremental_progress.specs.Commit.{resultFits}
 use Rattle.incremental_progress.specs.Parts.{intervals}
-use Rattle.incremental_progress.specs.Draws.{Ten, got, draw, fill, fillCommit}
+use Rattle.incremental_progress.specs.Draws.{Ten, got, newId, draw, fill, fillCommit}
 use Rattle.incremental_progress.specs.Entries.{Entry, whole, cut}
 use Rattle.incremental_progress.proofs.Marked.{AllClosed, none-left, one-more, ClosedImage, no-runs, one-run}
 use Rattle.incremental_progress.proofs.Lists.{All, All-map, All-mapped, All-unmapped}
@@ -37,14 +37,14 @@ true-all p (x ∷ xs) a = rw (a .0) (true-all p xs (a .1))
 
 -- ---- the new views
 -- 6 bytes of time and 10 that were drawn
-new-id : (l ten : List ℕ) → length l ≡ 16 → length ten ≡ 10 → length (take 6 l ++ ten) ≡ 16
-new-id l ten h k = rw (length-append, length-take-le 6 l (omega arith), k)
+new-id : (id : ViewId) (ten : Ten) → length (id .0) ≡ 16 → length ten ≡ 10 → length (newId id ten .0) ≡ 16
+new-id id ten h k = rw (length-append, length-take, k) (omega arith)
 
 fill-within : (e : Entry) (s : List Ten) → EntryWithin e → All IsTen s → Of ViewWithin (fill e s)
 fill-within (whole v) s h t = (h, t)
 fill-within (cut v r) s h t =
     next-of IsTen ViewWithin (draw (v .id) s) _ (draw-ten (v .id) s t)
-    (λ ten u k x. (record { id = new-id (v .id .0) ten (h .0 .id) k; table = h .0 .table; visible = h .1 }, x))
+    (λ ten u k x. (record { id = new-id (v .id) ten (h .0 .id) k; table = h .0 .table; visible = h .1 }, x))
 
 -- ---- the new image
 same-length : (new i : Image) → map (λ r. r .id) new ≡ map (λ r. r .id) i → length new ≡ length i

@@ -1,6 +1,6 @@
 -- The bytes of an image that fills a commit fit the pattern of the commit.
 -- Assumes nothing.
-use Prim.Native.Nat.{ℕ, suc}
+use Prim.Native.Nat.{ℕ, suc, _+_}
 use native.Mathlib.Omega.{arith}
 use mathlib.Core.Path.{_≡_, refl, sym, ap, subst, _∙_}
 use mathlib.Core.Option.{some}
@@ -12,11 +12,15 @@ use Rattle.records.specs.Values.{View, Run, Image, Job}
 use Rattle.records.specs.Form.{writeMany}
 use Rattle.records.specs.Layouts.{view, run, image, upTo}
 use Rattle.records.specs.Spans.{runHead}
+use Rattle.records.specs.declared.ids.ViewId.{ViewId}
+use Rattle.incremental_progress.specs.Ids.{timeLength, randomLength, timeOf}
+use Rattle.incremental_progress.specs.Ids as ids
 use Rattle.incremental_progress.specs.Entries.{Entry, whole, cut}
 use Rattle.incremental_progress.specs.Jobs.{OpenRun, commitRuns}
 use Rattle.incremental_progress.specs.Patterns.{Pattern, known, unknown, afterId, idPattern, entryPattern, runPattern, imagePattern, Fits, ended, same, any, AlikeBut, both-ended, equal, free}
-use Rattle.incremental_progress.proofs.Lists.{All, take-at-most}
+use Rattle.incremental_progress.proofs.Lists.{All}
 use Rattle.incremental_progress.proofs.Marked.{cutView, marked, markedRuns, Fills, kept, drawn, Each, no-more, and, FillsRun, same-id, FillsImage, Closed, AllClosed, none-left, one-more, ClosedImage, no-runs, one-run, FullParts}
+use Rattle.incremental_progress.proofs.Ids.{time-short}
 use Rattle.incremental_progress.proofs.Filling.{Full, markRun, marked-runs, runs-full}
 
 -- ---- patterns
@@ -45,31 +49,36 @@ view-bytes : (v : View) → view .write v ≡ v .id .0 ++ afterId v
 unfolding view
 view-bytes v = refl
 
--- a drawn id has 10 bytes after its time
-fits-drawn : (l : List ℕ) → length l ≡ 16 → Fits (known (take 6 l) ++ unknown 10) l
-fits-drawn l e =
-    let n : 10 ≡ length (drop 6 l) = rw length-drop (omega arith) in
-    let f = fits-both (fits-known (take 6 l)) (fits-unknown (drop 6 l)) in
-    rw n (subst (Fits (known (take 6 l) ++ unknown (length (drop 6 l)))) (take-append-drop 6 l) f)
+-- what is known and what is open make up the whole
+fits-split : (n m : ℕ) (l : List ℕ) → length l ≡ n + m → Fits (known (take n l) ++ unknown m) l
+fits-split n m l e =
+    let k : m ≡ length (drop n l) = rw length-drop (omega arith) in
+    let f = fits-both (fits-known (take n l)) (fits-unknown (drop n l)) in
+    rw k (subst (Fits (known (take n l) ++ unknown (length (drop n l)))) (take-append-drop n l) f)
+
+-- so the 16 bytes of a drawn id
+fits-drawn : (id : ViewId) → length (id .0) ≡ 16 → Fits (idPattern (ids.drawn (timeOf id))) (id .0)
+unfolding idPattern
+fits-drawn id e = fits-split timeLength randomLength (id .0) e
 
 -- an id with its 16 bytes is filled by itself alone
 fits-whole : (v : View) {w : View} → Fills v w → Closed v → Fits (entryPattern (whole v)) (view .write w)
 unfolding entryPattern idPattern
 fits-whole v kept c = rw (view-bytes v) (fits-both (fits-known (v .id .0)) (fits-known (afterId v)))
-fits-whole v (drawn {v = w}) c = let e = c .full in let h = take-at-most 6 (w .id .0) in absurd (omega arith)
+fits-whole v (drawn {v = w}) c = let e = c .full in let h = time-short (w .id) in absurd (omega arith)
 
 fits-cut : (v : View) (r : Range) {m w : View} → Fills m w → m ≡ cutView v r → Closed w → Fits (entryPattern (cut v r)) (view .write w)
 unfolding entryPattern idPattern
 fits-cut v r (kept {v = w}) e c =
-    let i : length (w .id .0) ≡ length (take 6 (v .id .0)) = ap (λ (u : View). length (u .id .0)) e in
+    let i : length (w .id .0) ≡ length (timeOf (v .id)) = ap (λ (u : View). length (u .id .0)) e in
     let f = c .full in
-    let h = take-at-most 6 (v .id .0) in
+    let h = time-short (v .id) in
     absurd (omega arith)
 fits-cut v r (drawn {v = w}) e c =
-    let t : take 6 (w .id .0) ≡ take 6 (v .id .0) = ap (λ (u : View). u .id .0) e in
+    let t : timeOf (w .id) ≡ timeOf (v .id) = ap (λ (u : View). u .id .0) e in
     let a : w .table ≡ v .table = ap (λ (u : View). u .table) e in
     let b : w .visible ≡ some r = ap (λ (u : View). u .visible) e in
-    rw (view-bytes w, ← t, ← a, ← b) (fits-both (fits-drawn (w .id .0) (c .full)) (fits-known (afterId w)))
+    rw (view-bytes w, ← t, ← a, ← b) (fits-both (fits-drawn (w .id) (c .full)) (fits-known (afterId w)))
 
 fits-entry : (e : Entry) {w : View} → Full e → Fills (marked e) w → Closed w → Fits (entryPattern e) (view .write w)
 fits-entry (whole v) o f c = fits-whole v f o

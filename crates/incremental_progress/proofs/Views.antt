@@ -119,7 +119,7 @@ not-just-visible v r e h = go (v .visible) e h
 
 -- the time of a time is that time, so a piece of a piece keeps the view's time
 pub time-again : (id : ViewId) → onlyTime (onlyTime id) ≡ onlyTime id
-time-again id = ap (λ (l : List ℕ). record { 0 = l }) (take-again 6 (id .0))
+time-again id = rw take-again
 
 pub cut-again : (v : View) (r q : Range) → cutView (cutView v r) q ≡ cutView v q
 cut-again v r q = ap (λ (id : ViewId). record { id = id; table = v .table; visible = some q }) (time-again (v .id))

@@ -8,7 +8,7 @@ use Rattle.base.specs.Pick.{pick}
 use Rattle.comparable_range.specs.Range.{Range}
 use Rattle.records.specs.Values.{View, Run, Image, Job}
 use Rattle.records.specs.declared.ids.ViewId.{ViewId}
-use Rattle.incremental_progress.specs.Ids.{sameViewId, timeOf}
+use Rattle.incremental_progress.specs.Ids.{sameViewId, randomLength, timeOf}
 use Rattle.incremental_progress.specs.Views.{start}
 use Rattle.incremental_progress.specs.Entries.{Entry, whole, cut, partEntries}
 use Rattle.incremental_progress.specs.Jobs.{leftEntries, newRun}
@@ -19,10 +19,10 @@ Ten = List ℕ
 
 unfoldable pub tens : ℕ → List ℕ → List Ten
 tens zero l = []
-tens (suc n) l = take 10 l ∷ tens n (drop 10 l)
+tens (suc n) l = take randomLength l ∷ tens n (drop randomLength l)
 
 unfoldable pub supply : List ℕ → List Ten
-supply l = tens (length l / 10) l
+supply l = tens (length l / randomLength) l
 
 pub data Drawn (A : Type 0) : Type 0 where
   used-up : Drawn A

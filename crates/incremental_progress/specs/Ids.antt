@@ -17,9 +17,15 @@ sameViewId a b = isEqual (cmpKey (a .0) (b .0))
 abbrev pub publishingId : TableId → ViewId
 publishingId id = record { 0 = id .0 }
 
--- the 48 bits of time of an id
+-- "Both are 128 bits: 48 of time, 80 random": in bytes
+abbrev pub timeLength : ℕ
+timeLength = 6
+
+abbrev pub randomLength : ℕ
+randomLength = 10
+
 abbrev pub timeOf : ViewId → List ℕ
-timeOf id = take 6 (id .0)
+timeOf id = take timeLength (id .0)
 
 -- the id of a view that a commit writes: one that is kept, or one of which the time is known and the 80 random bits are drawn
 pub data NewId : Type 0 where

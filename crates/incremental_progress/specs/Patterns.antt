@@ -6,7 +6,7 @@ use lib.ListN.{length}
 use Rattle.records.specs.Values.{View}
 use Rattle.records.specs.Layouts.{view, upTo}
 use Rattle.records.specs.Spans.{runHead}
-use Rattle.incremental_progress.specs.Ids.{NewId, kept, drawn}
+use Rattle.incremental_progress.specs.Ids.{NewId, kept, drawn, randomLength}
 use Rattle.incremental_progress.specs.Entries.{Entry, entryView, entryId}
 use Rattle.incremental_progress.specs.Jobs.{OpenRun}
 
@@ -25,10 +25,10 @@ unknown (suc n) = none ∷ unknown n
 abbrev pub afterId : View → List ℕ
 afterId v = view .write (record { id = record { 0 = [] }; table = v .table; visible = v .visible })
 
--- of a drawn id the 6 bytes of time are known, and 10 are open
+-- of a drawn id the time is known, and the random bytes are open
 unfoldable pub idPattern : NewId → Pattern
 idPattern (kept id) = known (id .0)
-idPattern (drawn time) = known time ++ unknown 10
+idPattern (drawn time) = known time ++ unknown randomLength
 
 -- a view's id, and what is written after it
 unfoldable pub entryPattern : Entry → Pattern
