@@ -28,7 +28,7 @@ pub record Passed (i : Image) (j : Job) : Type 0 where
   pub ranges : jobChecks j .ranges ≡ true
   pub outputs : jobChecks j .tables ≡ true
 
--- an image and a job that were read, and passed the checks 4 to 7
+-- an image and a job that were read, and what they passed
 pub record Read (given task : List ℕ) : Type 0 where
   pub small : length given ≤ 65536
   pub small-task : length task ≤ 65536

@@ -5,6 +5,7 @@ use mathlib.Core.Path.{_≡_, refl, sym, _∙_}
 use mathlib.Core.Bool.{Bool, true, false, not, _||_, false≢true}
 use mathlib.Core.Option.{Option, none, some}
 use mathlib.Core.List.{List, [], _∷_, map, flatMap}
+use Rattle.base.specs.Bytes.{Bytes}
 use Rattle.base.specs.Pick.{pick, and-first, and-second}
 use Rattle.key.specs.Order.{Key}
 use Rattle.comparable_range.specs.declared.Side.{Side}
@@ -30,8 +31,9 @@ use Rattle.incremental_progress.specs.NewImages.{AcceptedImagePassesAgai
 use Rattle.incremental_progress.proofs.Lists.{All, All-map, All-of, All-both, All-append, All-flatMap, All-mapped}
 use Rattle.incremental_progress.proofs.Checks.{all-each}
 use Rattle.incremental_progress.proofs.Drawing.{IsTen, Of, next-of, draw-ten, got-of, supply-tens, Ready, Kept, fillCommit-keeps}
-use Rattle.incremental_progress.proofs.NewImages.{true-all, new-within, new-small, stored, read-again, job-within}
-use Rattle.incremental_progress.proofs.Outcomes.{Made, accepted-commit}
+use Rattle.incremental_progress.proofs.Ceilings.{ImageWithin}
+use Rattle.incremental_progress.proofs.NewImages.{true-all, new-within, new-small, Stored, stored, read-again, job-within}
+use Rattle.incremental_progress.proofs.Outcomes.{Made, Accepted, accepted-commit}
 
 -- ---- what passes
 record TablePasses (t : Table) : Type 0 where
@@ -259,26 +261,30 @@ module _ (i : Image) (j : Job) (ids : List ℕ) (new : Image) (m : Made i j ids 
             entries = λ s. All-both (λ v x y. viewEntries-pass (intervals (j .parts)) v x y) (r .views) h (k s);
           }
 
-  new-distinct : distinct (map (λ r. r .id) new) ≡ true
+  pub new-distinct : distinct (map (λ r. r .id) new) ≡ true
   new-distinct = rw (new-kept .ids) (ids-distinct i (and-first (imageChecks i .order) _ (m .passes .first .order)))
 
-pub accepted-image-passes-again : AcceptedImagePassesAgain
+-- what is written stands for the new image
+pub accepted-stored : {given record′ ids new : List ℕ} (a : Accepted given record′ ids new) → ImageWithin (a .before) → Bytes record′ → Stored new (a .new)
 unfolding destinationIsSource
-accepted-image-passes-again given record′ ids room new b c e =
-    let a = accepted-commit given record′ ids room new e in
+accepted-stored {record′} {ids} a w c =
     let i = a .before in
     let j = a .progress in
     let m = a .made in
-    let w = stored given i b (a .before-is) .within in
     let p = job-within record′ j c (a .progress-is) in
     let n = new-within j i (supply ids) (a .new) (m .left) (m .passes .source) w p (supply-tens ids) (m .drawn) (m .fits) in
     let l = new-small j i (supply ids) (a .new) (m .left) (m .passes .source) w p (supply-tens ids) (m .drawn) (m .fits) in
-    let v = new-kept i j ids (a .new) m .views in
+    record { bytes = a .written; within = n; small = rw (a .written) l }
+
+pub accepted-image-passes-again : AcceptedImagePassesAgain
+accepted-image-passes-again given record′ ids room new b c e =
+    let a = accepted-commit given record′ ids room new e in
+    let v = new-kept (a .before) (a .progress) ids (a .new) (a .made) .views in
     record {
       now = a .new;
-      now-is = read-again new (a .new) (record { bytes = a .written; within = n; small = rw (a .written) l });
+      now-is = read-again new (a .new) (accepted-stored a (stored given (a .before) b (a .before-is) .within) c);
       ranges = ranges-pass (a .new) v;
       tables = tables-pass (a .new) v;
       sizes = sizes-pass (a .new) v;
-      ids = new-distinct i j ids (a .new) m;
+      ids = new-distinct (a .before) (a .progress) ids (a .new) (a .made);
     }

@@ -58,7 +58,7 @@ sorted-from b (v ∷ vs) e =
     let k : startCut b ≼ start v = later-start b (effective v .start) (h .0) in
     ((k, All-map (λ w m. ≼-trans k m) vs (s .0)), s)
 
-sorted : (vs : List View) → ascend (starts vs) ≡ true → Sorted start vs
+pub sorted : (vs : List View) → ascend (starts vs) ≡ true → Sorted start vs
 sorted [] e = tt
 sorted (v ∷ vs) e = sorted-from (effective v .start) vs e
 
@@ -67,7 +67,7 @@ below-last : (f l : Key) → reaches f (some l) ≡ true → before f ≼ before
 unfolding startHolds
 below-last f l e = record { holds = sym (start-holds-by-cuts (included f) l) ∙ e }
 
-ascending : (e c : Cut) (ts : List Table) → outputsFrom e c ts ≡ true → All (λ t. keysInOrder t ≡ true) ts → Ascending e c ts
+pub ascending : (e c : Cut) (ts : List Table) → outputsFrom e c ts ≡ true → All (λ t. keysInOrder t ≡ true) ts → Ascending e c ts
 unfolding outputsFrom keysInOrder
 ascending e c [] h a = no-more
 ascending e c (t ∷ ts) h a =
@@ -127,7 +127,7 @@ pub under-covered : (ivs : List Interval) → All Sound ivs → (v : View) → S
 unfolding covered
 under-covered ivs a v s u = rw (cut-none ivs (All-spans ivs a) v s u)
 
-implied : (a b : Bool) → (not a || b) ≡ true → a ≡ true → b ≡ true
+pub implied : (a b : Bool) → (not a || b) ≡ true → a ≡ true → b ≡ true
 implied true b e h = e
 implied false b e h = absurd (true≢false (sym h))
 

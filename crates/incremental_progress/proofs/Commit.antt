@@ -19,7 +19,6 @@ use Rattle.incremental_progress.specs.Views.{start, shown}
 use Rattle.incremental_progress.proofs.Marked.{cutRun, cutDestination, published, markedViews, markedRuns}
 use Rattle.incremental_progress.specs.Parts.{intervals, listedIn}
 use Rattle.incremental_progress.specs.Jobs.{isOutput, others, LaterJob, expected}
-use Rattle.incremental_progress.proofs.Values.{beside}
 use Rattle.incremental_progress.proofs.Lists.{All, All-map, All-both, All-unmapped, map-alike}
 use Rattle.incremental_progress.proofs.Sort.{Sorted}
 use Rattle.incremental_progress.proofs.Cutting.{Proper, Grown, later-proper, grown-within}
@@ -233,6 +232,10 @@ commit-shown j runs p q x = rw (commit-is-ideal j runs p) (go runs (p .ordered))
 pub shows-as-expected : {first runs : Image} (j : Job) → Commits first runs (some j) → (q : Table → Bool) (x : Key)
     → map (λ (r : Run). shown q x (r .views)) runs ≡ map (λ (r : Run). expected j (r .id) q x (shown q x (r .views))) first
 shows-as-expected {first} j c q x = let h = standing c in ap (map (λ (r : Run). shown q x (r .views))) (h .0) ∙ commit-shown j first (h .1) q x
+
+-- a run that is neither the destination nor a source, and nothing of any other
+abbrev pub beside : Job → Run → Option Run
+beside j r = pick (eqb (r .id) (j .destination)) none (pick (has (r .id) (j .sources)) none (some r))
 
 -- A commit keeps the runs, and leaves those beside the job untouched.
 pub commit-ids : (j : Job) (runs : Image) → map (λ (r : Run). r .id) (markedRuns j runs) ≡ map (λ (r : Run). r .id) runs

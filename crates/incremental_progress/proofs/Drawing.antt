@@ -17,6 +17,7 @@ use Rattle.incremental_progress.specs.Sort.{sort}
 use Rattle.incremental_progress.specs.Views.{start}
 use Rattle.incremental_progress.specs.Parts.{intervals}
 use Rattle.incremental_progress.specs.Jobs.{isOutput, others}
+use Rattle.incremental_progress.specs.Ids.{randomLength}
 use Rattle.incremental_progress.specs.Draws.{Ten, tens, supply, Drawn, used-up, got, next, isOld, draw, fill, fillAll, fillViews, fillRuns, fillCommit}
 use Rattle.incremental_progress.specs.Entries.{Entry, viewEntries, runEntries, partEntries}
 use Rattle.incremental_progress.proofs.Lists.{All, All-append, All-flatMap}
@@ -25,16 +26,16 @@ use Rattle.incremental_progress.proofs.NewRuns.{fill-by-kind}
 
 -- ---- the supply: each draw has ten bytes
 abbrev pub IsTen : Ten → Type 0
-IsTen ten = length ten ≡ 10
+IsTen ten = length ten ≡ randomLength
 
-tens-are : (n : ℕ) (l : List ℕ) → 10 * n ≤ length l → All IsTen (tens n l)
+tens-are : (n : ℕ) (l : List ℕ) → randomLength * n ≤ length l → All IsTen (tens n l)
 unfolding tens
 tens-are zero l h = tt
-tens-are (suc n) l h = (length-take-le 10 l (omega arith), tens-are n (drop 10 l) (rw length-drop (omega arith)))
+tens-are (suc n) l h = (length-take-le randomLength l (omega arith), tens-are n (drop randomLength l) (rw length-drop (omega arith)))
 
 pub supply-tens : (l : List ℕ) → All IsTen (supply l)
 unfolding supply
-supply-tens l = tens-are (length l / 10) l (omega arith)
+supply-tens l = tens-are (length l / randomLength) l (omega arith)
 
 -- ---- what was drawn, if anything was: the value, and ten bytes in each draw that is left
 abbrev pub Of : {A : Type 0} → (A → Type 0) → Drawn A → Type 0

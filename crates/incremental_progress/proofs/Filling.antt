@@ -21,17 +21,20 @@ use Rattle.incremental_progress.specs.Sort.{insert, sort}
 use Rattle.incremental_progress.specs.Views.{start, sameRange}
 use Rattle.incremental_progress.proofs.Marked.{onlyTime, cutView, piece, retained, cutRun, cutDestination, publish, published, markedViews, markedRuns, marked, Fills, kept, drawn, Each, no-more, and, same-id, FillsImage, Closed, AllClosed, none-left, one-more, ClosedImage, no-runs, one-run, FullTables, no-tables, one-table, FullParts, no-parts, one-part}
 use Rattle.incremental_progress.specs.Parts.{isKey, durable, intervals, identity, openKey}
-use Rattle.incremental_progress.specs.Jobs.{isOutput, others, leftEntries, newRun, OpenRun, commitRuns}
+use Rattle.incremental_progress.specs.Jobs.{isOutput, others, leftEntries, withOutputs, OpenRun, commitRuns}
 use Rattle.incremental_progress.specs.Draws.{Ten, Drawn, used-up, got, next, newId, draw, drawnView, fill, fillAll, fillViews, fillRuns, fillCommit}
 use Rattle.incremental_progress.specs.Ids.{timeLength, timeOf}
 use Rattle.incremental_progress.specs.Entries.{Entry, whole, cut, entryStart, pieceEntry, viewEntries, runEntries, outputEntries, partEntries}
-use Rattle.incremental_progress.proofs.Values.{CommitFills}
 use Rattle.incremental_progress.proofs.Lists.{All, All-of, All-append, All-mapped, map-append, map-flatMap, take-front}
 use Rattle.incremental_progress.proofs.Sort.{All-sort}
 use Rattle.incremental_progress.proofs.NewRuns.{fill-by-kind}
 use Rattle.incremental_progress.proofs.Ids.{Each-append, fills-sort, fills-self}
 
 -- ---- the entries are the marked commit's
+pub piece-marked : (v : View) (r : Range) → marked (pieceEntry v r) ≡ piece v r
+unfolding piece
+piece-marked v r = refl
+
 view-marked : (ivs : List Interval) (v : View) → map marked (viewEntries ivs v) ≡ retained ivs v
 unfolding viewEntries retained piece
 view-marked ivs v = go (cutOut ivs (effective v ∷ []))
@@ -141,10 +144,10 @@ outputs-marked : (j : Job) → map marked (outputsOf j) ≡ flatMap published (j
 outputs-marked j = simp (map-flatMap, part-marked)
 
 abbrev openViews : Job → ℕ → List View → List Entry
-openViews j n vs = newRun entryStart j n (leftEntries j n vs) (outputsOf j)
+openViews j n vs = withOutputs entryStart j n (leftEntries j n vs) (outputsOf j)
 
 views-marked : (j : Job) (n : ℕ) (vs : List View) → markedViews j n vs ≡ map marked (openViews j n vs)
-unfolding markedViews cutDestination newRun leftEntries
+unfolding markedViews cutDestination withOutputs leftEntries
 views-marked j n vs = go (eqb n (j .destination)) (has n (j .sources))
   where
     ivs : List Interval
@@ -173,7 +176,7 @@ whole-full none-left = tt
 whole-full (one-more c d) = (c, whole-full d)
 
 views-full : (j : Job) → FullParts (j .parts) → (n : ℕ) (vs : List View) → AllClosed vs → All Full (openViews j n vs)
-unfolding newRun leftEntries
+unfolding withOutputs leftEntries
 views-full j f n vs c = go (eqb n (j .destination)) (has n (j .sources))
   where
     ivs : List Interval
@@ -264,7 +267,12 @@ module _ (j : Job) (outs : List View) (a : Each Fills (flatMap published (j .par
       rw (← f) (and (same-id (views-fill (r .id) (r .views) c s (h .value) (h .rest) (h .first))) (runs-fill rs d (h .rest) (k .value) (k .rest) (k .first)))
 
 -- What a commit writes, with whatever supply, fills the marked commit.
-pub commit-fills : CommitFills
+pub commit-fills :
+    (j : Job) (i new : Image) (s rest : List Ten)
+    → FullParts (j .parts)
+    → ClosedImage i
+    → fillCommit j i s ≡ got new rest
+    → FillsImage (markedRuns j i) new
 unfolding fillCommit
 commit-fills j i new s t o c e =
     let h = through (fillAll (flatMap partEntries (j .parts)) s) _ new t e in

@@ -20,13 +20,13 @@ use Rattle.manifest.specs.Checks.{all, has, tablePasses, ascend, starts, imageC
 use Rattle.incremental_progress.specs.Intervals.{Interval, cutOut}
 use Rattle.incremental_progress.specs.Sort.{insert, sort}
 use Rattle.incremental_progress.specs.Views.{start, sameRange, shown}
-use Rattle.incremental_progress.specs.Ids.{timeOf}
+use Rattle.incremental_progress.specs.Ids.{timeLength, timeOf}
 use Rattle.incremental_progress.specs.Entries.{whole, cut}
 use Rattle.incremental_progress.proofs.Marked.{marked, piece, retained, cutRun, cutDestination, published, markedViews, markedRuns, blank, Fills, kept, drawn, Each, no-more, and, same-id, FillsImage, AllClosed, none-left, one-more, ClosedImage, no-runs, one-run}
 use Rattle.incremental_progress.specs.Parts.{intervals}
 use Rattle.incremental_progress.specs.Jobs.{isOutput, others}
 use Rattle.incremental_progress.specs.Checks.{covered, outputViewsCovered}
-use Rattle.incremental_progress.proofs.Values.{beside}
+use Rattle.incremental_progress.proofs.Commit.{beside}
 use Rattle.incremental_progress.proofs.Lists.{take-again}
 use Rattle.incremental_progress.proofs.Checks.{Checked}
 
@@ -142,10 +142,13 @@ image-self (r ∷ rs) = and (same-id (fills-self (r .views))) (image-self rs)
 abbrev bare : Run → Run
 bare r = record { id = r .id; views = map blank (r .views) }
 
+pub bare-view : {m v : View} → Fills m v → blank m ≡ blank v
+bare-view kept = refl
+bare-view drawn = rw take-again
+
 bare-views : {ms vs : List View} → Each Fills ms vs → map blank ms ≡ map blank vs
 bare-views no-more = refl
-bare-views (and kept a) = rw (bare-views a)
-bare-views (and (drawn {v}) a) = rw (take-again, bare-views a)
+bare-views (and f a) = rw (bare-view f, bare-views a)
 
 bare-image : {ms rs : Image} → FillsImage ms rs → map bare ms ≡ map bare rs
 bare-image no-more = refl
@@ -184,6 +187,9 @@ covered-bare rs j =
     all-run-bare _ (λ r. ap (λ b. not (eqb (r .id) (j .destination)) || b)
     (all-bare (λ v. not (isOutput (j .parts) (v .table)) || covered (intervals (j .parts)) v) (λ v. refl) (r .views))) rs
 
+pub covered-fills : (j : Job) {ms rs : Image} → FillsImage ms rs → outputViewsCovered ms j ≡ outputViewsCovered rs j
+covered-fills j {ms} {rs} f = sym (covered-bare ms j) ∙ ap (λ (t : Image). outputViewsCovered t j) (bare-image f) ∙ covered-bare rs j
+
 -- so what passes of a filled image passes of the one that leaves bits open
 pub fills-checked : (j : Job) {ms rs : Image} → FillsImage ms rs → Checked rs j → Checked ms j
 fills-checked j {ms} {rs} f c =
@@ -192,7 +198,7 @@ fills-checked j {ms} {rs} f c =
       tables = sym (tables-bare ms) ∙ ap (λ (t : Image). imageChecks t .tables) e ∙ tables-bare rs ∙ c .tables;
       order = sym (order-bare ms) ∙ ap (λ (t : Image). imageChecks t .order) e ∙ order-bare rs ∙ c .order;
       job = c .job;
-      covered = sym (covered-bare ms j) ∙ ap (λ (t : Image). outputViewsCovered t j) e ∙ covered-bare rs j ∙ c .covered;
+      covered = covered-fills j f ∙ c .covered;
     }
 
 -- ---- what is shown does not depend on ids
@@ -212,7 +218,7 @@ image-ids (and (same-id a) b) = rw (image-ids b)
 
 -- the time of an id is no id
 pub time-short : (id : ViewId) → length (timeOf id) < 16
-time-short id = rw length-take (omega arith)
+time-short id = omega (arith, length-take timeLength (id .0))
 
 -- a view with its bits is filled by itself only
 pub closed-views : {ms vs : List View} → Each Fills ms vs → AllClosed ms → vs ≡ ms

@@ -271,7 +271,7 @@ durable-in-plan p x (ongoing b d k e f m n l) h =
     let w = interval-parts (record { start = plannedInterval p .start; end = some b }) x (rw e at h) in
     (w .0, ≼-trans (w .1) (≼-trans (≺-≼ (before-≺-after b)) n))
 
-intervals-from : {c : Cut} {ps : List Part} (x : Key) → Planned c ps → anyHolds (intervals ps) x ≡ true → c ≼ before x
+pub intervals-from : {c : Cut} {ps : List Part} (x : Key) → Planned c ps → anyHolds (intervals ps) x ≡ true → c ≼ before x
 unfolding intervals flatMap anyHolds
 intervals-from x no-parts h = absurd (true≢false (sym h))
 intervals-from {c} x (with-part {p} {ps} l r a n) h = go (anyHolds (listed (durable p)) x) refl (rw any-append at h) (λ k. intervals-from x n k)

@@ -106,6 +106,27 @@ pub Pairwise-map : {A : Type 0} (P : A → Type 0) (R S : A → A → Type 0) �
 Pairwise-map P R S f [] a p = tt
 Pairwise-map P R S f (x ∷ xs) a p = (All-both (λ y b r. f x y (a .0) b r) xs (a .1) (p .0), Pairwise-map P R S f xs (a .1) (p .1))
 
+pub Pairwise-mapped : {A B : Type 0} (R : B → B → Type 0) (f : A → B) (xs : List A) → Pairwise (λ x y. R (f x) (f y)) xs → Pairwise R (map f xs)
+Pairwise-mapped R f [] p = tt
+Pairwise-mapped R f (x ∷ xs) p = (All-mapped (R (f x)) f xs (p .0), Pairwise-mapped R f xs (p .1))
+
+pub Pairwise-unmapped : {A B : Type 0} (R : B → B → Type 0) (f : A → B) (xs : List A) → Pairwise R (map f xs) → Pairwise (λ x y. R (f x) (f y)) xs
+Pairwise-unmapped R f [] p = tt
+Pairwise-unmapped R f (x ∷ xs) p = (All-unmapped (R (f x)) f xs (p .0), Pairwise-unmapped R f xs (p .1))
+
+All-swap : {A B : Type 0} (Q : A → B → Type 0) (xs : List A) (ys : List B) → All (λ y. All (λ x. Q x y) xs) ys → All (λ x. All (Q x) ys) xs
+All-swap Q [] ys a = tt
+All-swap Q (x ∷ xs) ys a = (All-map (λ y h. h .0) ys a, All-swap Q xs ys (All-map (λ y h. h .1) ys a))
+
+-- of pieces, where those of one element are in order and those of two in order are
+pub Pairwise-flatMap : {A : Type 0} (R : A → A → Type 0) (f : A → List A) → ((x : A) → Pairwise R (f x)) → ((x y : A) → R x y → All (λ p. All (R p) (f y)) (f x)) → (xs : List A) → Pairwise R xs → Pairwise R (flatMap f xs)
+unfolding flatMap
+Pairwise-flatMap R f one two [] p = tt
+Pairwise-flatMap R f one two (x ∷ xs) p =
+    Pairwise-append R (f x) (flatMap f xs) (one x) (Pairwise-flatMap R f one two xs (p .1))
+    (All-map (λ q h. All-flatMap (λ y. All (R q) (f y)) (R q) f (λ y k. k) xs h) (f x)
+    (All-swap (λ q y. All (R q) (f y)) (f x) xs (All-map (λ y r. two x y r) xs (p .0))))
+
 pub All-left : {A : Type 0} (P : A → Type 0) (xs ys : List A) → All P (xs ++ ys) → All P xs
 All-left P [] ys a = tt
 All-left P (x ∷ xs) ys a = (a .0, All-left P xs ys (a .1))

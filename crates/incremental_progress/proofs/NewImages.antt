@@ -36,8 +36,8 @@ true-all p [] a = refl
 true-all p (x ∷ xs) a = rw (a .0) (true-all p xs (a .1))
 
 -- ---- the new views
--- 6 bytes of time and 10 that were drawn
-new-id : (id : ViewId) (ten : Ten) → length (id .0) ≡ 16 → length ten ≡ 10 → length (newId id ten .0) ≡ 16
+-- the time and what was drawn
+new-id : (id : ViewId) (ten : Ten) → length (id .0) ≡ 16 → IsTen ten → length (newId id ten .0) ≡ 16
 new-id id ten h k = rw (length-append, length-take, k) (omega arith)
 
 fill-within : (e : Entry) (s : List Ten) → EntryWithin e → All IsTen s → Of ViewWithin (fill e s)
@@ -45,6 +45,18 @@ fill-within (whole v) s h t = (h, t)
 fill-within (cut v r) s h t =
     next-of IsTen ViewWithin (draw (v .id) s) _ (draw-ten (v .id) s t)
     (λ ten u k x. (record { id = new-id (v .id) ten (h .0 .id) k; table = h .0 .table; visible = h .1 }, x))
+
+-- ---- closed
+closed-views : (vs : List View) → All ViewWithin vs → AllClosed vs
+closed-views [] a = none-left
+closed-views (v ∷ vs) a = one-more (record { full = a .0 .id }) (closed-views vs (a .1))
+
+closed-runs : (i : Image) → All (λ r. All ViewWithin (r .views)) i → ClosedImage i
+closed-runs [] a = no-runs
+closed-runs (r ∷ rs) a = one-run (closed-views (r .views) (a .0)) (closed-runs rs (a .1))
+
+pub closed : (i : Image) → ImageWithin i → ClosedImage i
+closed i w = closed-runs i (All-map (λ r h. h .views) i (w .runs))
 
 -- ---- the new image
 same-length : (new i : Image) → map (λ r. r .id) new ≡ map (λ r. r .id) i → length new ≡ length i
@@ -79,6 +91,9 @@ module _
     pub new-ids : map (λ r. r .id) new ≡ map (λ r. r .id) i
     new-ids = new-kept .ids
 
+    pub new-closed : ClosedImage new
+    new-closed = closed-runs new (new-kept .views)
+
     pub new-within : resultFits new ≡ true → ImageWithin new
     unfolding resultFits
     new-within f = record { count = rw (same-length new i new-ids) (w .count); runs = runs-within new small counts (new-kept .views) }
@@ -92,18 +107,6 @@ module _
     pub new-small : resultFits new ≡ true → length (image .write new) ≤ 65536
     unfolding resultFits
     new-small f = leb-true (length (image .write new)) 65536 (and-second (all (λ r. leb (length (r .views)) 1024) new) _ f)
-
--- ---- closed
-closed-views : (vs : List View) → All ViewWithin vs → AllClosed vs
-closed-views [] a = none-left
-closed-views (v ∷ vs) a = one-more (record { full = a .0 .id }) (closed-views vs (a .1))
-
-closed-runs : (i : Image) → All RunWithin i → ClosedImage i
-closed-runs [] a = no-runs
-closed-runs (r ∷ rs) a = one-run (closed-views (r .views) (a .0 .views)) (closed-runs rs (a .1))
-
-pub closed : (i : Image) → ImageWithin i → ClosedImage i
-closed i w = closed-runs i (w .runs)
 
 -- ---- bytes that stand for an image
 pub record Stored (l : List ℕ) (i : Image) : Type 0 where

@@ -12,7 +12,7 @@ use Rattle.incremental_progress.specs.Sort.{sort}
 use Rattle.incremental_progress.specs.Views.{start}
 use Rattle.incremental_progress.specs.Parts.{intervals}
 use Rattle.incremental_progress.specs.Entries.{Entry, whole, runEntries}
-use Rattle.incremental_progress.specs.Jobs.{others, leftEntries, newRun}
+use Rattle.incremental_progress.specs.Jobs.{others, leftEntries, withOutputs}
 use Rattle.incremental_progress.specs.Draws.{Ten, Drawn, used-up, got, next, fillAll, fillViews}
 
 pub next-got : {A : Type 0} (d : Drawn A) → next d (λ a s. got a s) ≡ d
@@ -31,7 +31,7 @@ pub fill-by-kind :
     ≡ pick (eqb n (j .destination))
     (next (fillAll (runEntries (intervals (j .parts)) (others (j .parts) vs)) s) (λ ws s. got (sort start (ws ++ outs)) s))
     (pick (has n (j .sources)) (fillAll (runEntries (intervals (j .parts)) vs) s) (got vs s))
-unfolding fillViews leftEntries newRun
+unfolding fillViews leftEntries withOutputs
 fill-by-kind j outs n vs s =
     go (eqb n (j .destination)) (has n (j .sources)) (runEntries (intervals (j .parts)) (others (j .parts) vs)) (runEntries (intervals (j .parts)) vs)
   where

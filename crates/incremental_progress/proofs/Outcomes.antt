@@ -7,16 +7,16 @@ use mathlib.Core.Bool.{Bool, true, false}
 use mathlib.Core.List.{List}
 use lib.Dec.{leb}
 use lib.ListN.{length}
+use Rattle.base.specs.Pick.{and-second}
 use Rattle.base.specs.Outcome.{Outcome, stop, answer, check, andThen}
 use Rattle.format.specs.Whole.{whole}
 use Rattle.records.specs.Values.{Image, Job}
 use Rattle.records.specs.Layouts.{image, job}
 use Rattle.manifest.specs.Checks.{Checks, checked, joined, imageChecks, jobChecks}
-use Rattle.incremental_progress.proofs.Marked.{markedRuns}
 use Rattle.incremental_progress.specs.Checks.{destinationIsSource, sourcesThere, plannedInOrder, outputsInOrder, outputViewsCovered, retainedMeet}
 use Rattle.incremental_progress.specs.Draws.{Ten, Drawn, used-up, got, supply, fillCommit}
+use Rattle.incremental_progress.specs.Laws.{JobPasses}
 use Rattle.incremental_progress.specs.Commit.{drawnOr, resultFits, drawnImage, jobChecked, applied, committed, commitOutcome}
-use Rattle.incremental_progress.proofs.Values.{markedOutcome}
 
 -- ---- outcomes
 pub record Answered {A B : Type 0} (o : Outcome A) (f : A → Outcome B) (b : B) : Type 0 where
@@ -27,6 +27,9 @@ pub record Answered {A B : Type 0} (o : Outcome A) (f : A → Outcome B) (b : B)
 pub answered : {A B : Type 0} (o : Outcome A) (f : A → Outcome B) (b : B) → andThen o f ≡ answer b → Answered o f b
 answered (stop n) f b e = absurd (let z : _≡_ {A = ℕ} 0 1 = cc in omega arith)
 answered (answer a) f b e = record { value = a; first = refl; second = e }
+
+pub same-answer : {A : Type 0} {o : Outcome A} {a b : A} → o ≡ answer a → o ≡ answer b → a ≡ b
+same-answer p q = cc
 
 pub tested : {A : Type 0} (n : ℕ) (t : Bool) (o : Outcome A) (a : A) → check n t o ≡ answer a → (t ≡ true) × (o ≡ answer a)
 tested n true o a e = (refl, e)
@@ -56,6 +59,15 @@ pub record Passes (i : Image) (j : Job) : Type 0 where
   pub outputs : outputsInOrder j ≡ true
   pub covered : outputViewsCovered i j ≡ true
   pub meet : retainedMeet i j ≡ true
+
+pub job-passes : {i : Image} {j : Job} → Passes i j → JobPasses j
+job-passes {i} p =
+    record {
+      ranges = and-second (imageChecks i .ranges) _ (p .first .ranges);
+      tables = and-second (imageChecks i .tables) _ (p .first .tables);
+      planned = p .planned;
+      outputs = p .outputs;
+    }
 
 pub record Made (i : Image) (j : Job) (ids : List ℕ) (new : Image) : Type 0 where
   pub passes : Passes i j
@@ -95,12 +107,6 @@ made i j ids new e =
     let x : d .value ≡ new = cc (c15 .1) in
     let g = drawn-answer (fillCommit j i (supply ids)) new (d .first ∙ ap answer x) in
     record { passes = p .0; left = g .left; drawn = g .is; fits = rw (← x) (c15 .0) }
-
--- the outcome with drawn ids left open
-pub marked-answer : (i : Image) (j : Job) → Passes i j → markedOutcome i j ≡ answer (markedRuns j i)
-unfolding markedOutcome jobChecked
-marked-answer i j p =
-    rw (p .first .ranges, p .first .tables, p .first .order, p .first .sizes, p .source, p .there, p .planned, p .outputs, p .covered, p .meet)
 
 -- ---- an accepted commit
 pub record Accepted (given record′ ids bytes : List ℕ) : Type 0 where

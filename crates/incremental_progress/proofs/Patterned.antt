@@ -45,7 +45,7 @@ alike (same f) (same g) = equal (alike f g)
 alike (any f) (any g) = free (alike f g)
 
 -- ---- entries
-view-bytes : (v : View) → view .write v ≡ v .id .0 ++ afterId v
+pub view-bytes : (v : View) → view .write v ≡ v .id .0 ++ afterId v
 unfolding view
 view-bytes v = refl
 
@@ -80,7 +80,7 @@ fits-cut v r (drawn {v = w}) e c =
     let b : w .visible ≡ some r = ap (λ (u : View). u .visible) e in
     rw (view-bytes w, ← t, ← a, ← b) (fits-both (fits-drawn (w .id) (c .full)) (fits-known (afterId w)))
 
-fits-entry : (e : Entry) {w : View} → Full e → Fills (marked e) w → Closed w → Fits (entryPattern e) (view .write w)
+pub fits-entry : (e : Entry) {w : View} → Full e → Fills (marked e) w → Closed w → Fits (entryPattern e) (view .write w)
 fits-entry (whole v) o f c = fits-whole v f o
 fits-entry (cut v r) o f c = fits-cut v r f refl c
 
@@ -90,15 +90,15 @@ fits-entries [] o no-more none-left = ended
 fits-entries (e ∷ es) o (and f fs) (one-more c cs) = fits-both (fits-entry e (o .0) f c) (fits-entries es (o .1) fs cs)
 
 -- ---- runs and images
-each-length : {A : Type 0} {R : A → A → Type 0} {xs ys : List A} → Each R xs ys → length xs ≡ length ys
+pub each-length : {A : Type 0} {R : A → A → Type 0} {xs ys : List A} → Each R xs ys → length xs ≡ length ys
 each-length no-more = refl
 each-length (and r rs) = ap suc (each-length rs)
 
-run-bytes : (r : Run) → run .write r ≡ runHead .write (r .id, length (r .views)) ++ writeMany (view .write) (r .views)
+pub run-bytes : (r : Run) → run .write r ≡ runHead .write (r .id, length (r .views)) ++ writeMany (view .write) (r .views)
 unfolding run
 run-bytes r = sym (append-assoc (writeNumber 4 (r .id)) _ _)
 
-fits-run : (o : OpenRun) {r : Run} → All Full (o .entries) → FillsRun (markRun o) r → AllClosed (r .views) → Fits (runPattern o) (run .write r)
+pub fits-run : (o : OpenRun) {r : Run} → All Full (o .entries) → FillsRun (markRun o) r → AllClosed (r .views) → Fits (runPattern o) (run .write r)
 unfolding runPattern
 fits-run o a (same-id {n} {ws} f) c =
     let m : length (o .entries) ≡ length ws = sym (length-map (o .entries) marked) ∙ each-length f in

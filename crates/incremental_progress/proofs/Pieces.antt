@@ -22,7 +22,7 @@ inside-trans h k = record { starts = ≼-trans (k .starts) (h .starts); runs = h
 pub All-keep : (P : Span → Type 0) (r : Span) → (r .from ≺ r .to → P r) → All P (keep r)
 All-keep P r f = elim (order (r .to) (r .from)) [ inl h ↦ rw (keep-none h) tt | inr h ↦ rw (keep-some h) (f h, tt) ]
 
-inside-less : (i r : Span) → All (λ p. Inside p r) (less i r)
+pub inside-less : (i r : Span) → All (λ p. Inside p r) (less i r)
 unfolding less
 inside-less i r =
     All-append _ (keep (until r (i .from))) (keep (since r (i .to)))

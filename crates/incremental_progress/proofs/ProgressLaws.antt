@@ -4,7 +4,7 @@ use mathlib.Core.Path.{_≡_, refl, sym, _∙_}
 use mathlib.Core.Bool.{Bool, true, false, not, _||_}
 use mathlib.Core.List.{List, [], _∷_}
 use Rattle.comparable_range.specs.Range.{intersectSides, meets}
-use Rattle.records.specs.Values.{View}
+use Rattle.records.specs.Values.{View, Job}
 use Rattle.manifest.specs.Ranges.{own, effective}
 use Rattle.manifest.specs.Checks.{all, has, tablePasses, imageChecks}
 use Rattle.incremental_progress.specs.Intervals.{Interval, cutOut}
@@ -16,7 +16,7 @@ use Rattle.incremental_progress.proofs.Lists.{All, All-map}
 use Rattle.incremental_progress.proofs.Cutting.{grown-within}
 use Rattle.incremental_progress.proofs.Subtraction.{any-cuts}
 use Rattle.incremental_progress.proofs.Views.{cut-inside, retained-meets}
-use Rattle.incremental_progress.proofs.Later.{intervals-grown}
+use Rattle.incremental_progress.proofs.Later.{later-self, intervals-grown}
 use Rattle.incremental_progress.proofs.Checks.{all-each, sane, job-parts}
 
 pub later-holds-more : LaterHoldsMore
@@ -46,3 +46,7 @@ retained-always-meets i j h =
     either : (a : Bool) {b : Bool} → b ≡ true → (not a || b) ≡ true
     either true e = e
     either false e = refl
+
+-- ---- the same record again
+pub later-itself : (j : Job) → LaterJob j j
+later-itself j = record { destination = refl; sources = refl; parts = later-self (j .parts) }

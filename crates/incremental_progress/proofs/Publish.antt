@@ -23,7 +23,7 @@ use Rattle.incremental_progress.specs.Parts.{plannedInterval, isKey, dur
 use Rattle.incremental_progress.proofs.Lists.{All, All-map, All-of, All-both, All-mapped, All-append, All-flatMap}
 use Rattle.incremental_progress.proofs.Cutting.{Proper, Grown, grown-within, later-proper}
 use Rattle.incremental_progress.proofs.Subtraction.{cuts, cuts-injective, spanOf, cut-out-cuts, any-cuts, holds-within}
-use Rattle.incremental_progress.proofs.Vanish.{AtKey, at-key, Open, later-at-key, vanish}
+use Rattle.incremental_progress.proofs.Vanish.{AtKey, at-key, Open, later-keeps, vanish}
 use Rattle.incremental_progress.proofs.Views.{Showing}
 use Rattle.incremental_progress.proofs.Job.{fromCut, toCut, Ascending, Planned, no-parts, with-part, Lies, Fits, fits-all, Covered, any-append, none-some, covers, uncut, Status, finished, nothing, ongoing, status}
 
@@ -36,7 +36,7 @@ pub record Sane (v : View) : Type 0 where
 abbrev pub Under : List Interval → View → Type 0
 Under ivs v = (x : Key) → holds (effective v) x ≡ true → anyHolds ivs x ≡ true
 
-open-spans : (ivs : List Interval) → All Open (map spanOf ivs)
+pub open-spans : (ivs : List Interval) → All Open (map spanOf ivs)
 open-spans ivs = All-mapped Open spanOf ivs (All-of (λ iv. go (iv .end)) ivs)
   where
     go : (o : Option Key) → AtKey (endCut (endBound o)) ⊎ (endCut (endBound o) ≡ above)
@@ -80,7 +80,7 @@ good-cut iv t n = (
   where
     go : (o : Option Key) → AtKey (later (before (t .first)) (startCut (startBound o)))
     go none = rw (later-left (below-≼ (before (t .first)))) at-key
-    go (some k) = later-at-key at-key at-key
+    go (some k) = later-keeps AtKey at-key at-key
 
 good-publish : {c e : Cut} (k : Option Key) (iv : Interval) (t : Table) → Fits c e t → Covered k iv t → All (Good (iv ∷ [])) (publish k iv t)
 unfolding publish outputEntries

@@ -21,28 +21,34 @@ use Rattle.incremental_progress.proofs.Pieces.{Inside, inside-cut, All-
 pub data AtKey : Cut → Type 0 where
   at-key : {k : Key} → AtKey (before k)
 
+-- What holds of a span's start, and of the ends of the spans that are cut out of it but for an end above all, holds of the
+-- start of each piece.
+module _ (P : Cut → Type 0) where
+  pub later-keeps : {c d : Cut} → P c → P d → P (later c d)
+  later-keeps {c} {d} p q = elim (order c d) [ inl h ↦ rw (later-right h) q | inr h ↦ rw (later-left (≺-≼ h)) p ]
+
+  abbrev pub EndsAt : Span → Type 0
+  EndsAt i = P (i .to) ⊎ (i .to ≡ above)
+
+  from-less : (i r : Span) → EndsAt i → P (r .from) → All (λ p. P (p .from)) (less i r)
+  unfolding less
+  from-less i r o h =
+      All-append _ (keep (until r (i .from))) (keep (since r (i .to)))
+      (All-keep _ (until r (i .from)) (λ _. h))
+      (All-keep (λ p. P (p .from)) (since r (i .to)) (λ k. go o k))
+    where
+      go : EndsAt i → later (r .from) (i .to) ≺ r .to → P (later (r .from) (i .to))
+      go (inl q) k = later-keeps h q
+      go (inr e) k = ≼-not-≺ (≼-above (r .to)) (rw (e, later-right (≼-above (r .from))) at k)
+
+  pub from-cut : (is rs : List Span) → All EndsAt is → All (λ p. P (p .from)) rs → All (λ p. P (p .from)) (cutSpans is rs)
+  unfolding cutSpans
+  from-cut [] rs o a = a
+  from-cut (i ∷ is) rs o a = from-cut is _ (o .1) (All-flatMap _ _ (less i) (λ r h. from-less i r (o .0) h) rs a)
+
 -- a span's end is just before a key, or above all
 abbrev pub Open : Span → Type 0
-Open i = AtKey (i .to) ⊎ (i .to ≡ above)
-
-pub later-at-key : {c d : Cut} → AtKey c → AtKey d → AtKey (later c d)
-later-at-key {c} {d} p q = elim (order c d) [ inl h ↦ rw (later-right h) q | inr h ↦ rw (later-left (≺-≼ h)) p ]
-
-at-key-less : (i r : Span) → Open i → AtKey (r .from) → All (λ p. AtKey (p .from)) (less i r)
-unfolding less
-at-key-less i r o h =
-    All-append _ (keep (until r (i .from))) (keep (since r (i .to)))
-    (All-keep _ (until r (i .from)) (λ _. h))
-    (All-keep (λ p. AtKey (p .from)) (since r (i .to)) (λ k. go o k))
-  where
-    go : Open i → later (r .from) (i .to) ≺ r .to → AtKey (later (r .from) (i .to))
-    go (inl q) k = later-at-key h q
-    go (inr e) k = ≼-not-≺ (≼-above (r .to)) (rw (e, later-right (≼-above (r .from))) at k)
-
-at-key-cut : (is rs : List Span) → All Open is → All (λ p. AtKey (p .from)) rs → All (λ p. AtKey (p .from)) (cutSpans is rs)
-unfolding cutSpans
-at-key-cut [] rs o a = a
-at-key-cut (i ∷ is) rs o a = at-key-cut is _ (o .1) (All-flatMap _ _ (less i) (λ r h. at-key-less i r (o .0) h) rs a)
+Open = EndsAt AtKey
 
 holds-start : {c d : Cut} → AtKey c → c ≺ d → (k : Key) × (within (record { from = c; to = d }) k ≡ true)
 unfolding within
@@ -52,7 +58,7 @@ pub vanish : (is : List Span) (r : Span) → All Proper is → All Open is → A
     → ((x : Key) → within r x ≡ true → anyWithin is x ≡ true) → cutSpans is (r ∷ []) ≡ []
 unfolding times
 vanish is r p o h n f =
-    go (cutSpans is (r ∷ [])) (inside-cut is r (r ∷ []) (record { starts = ≼-refl _; runs = n; ends = ≼-refl _ }, tt)) (at-key-cut is (r ∷ []) o (h, tt))
+    go (cutSpans is (r ∷ [])) (inside-cut is r (r ∷ []) (record { starts = ≼-refl _; runs = n; ends = ≼-refl _ }, tt)) (from-cut AtKey is (r ∷ []) o (h, tt))
     (λ x. times-cut x is (r ∷ []) p)
   where
     none : (x : Key) (a b : Bool) → within r x ≡ b → anyWithin is x ≡ a → (m : ℕ) → suc m ≡ pick a 0 (bit b + 0) → ⊥

@@ -11,7 +11,7 @@ use Rattle.records.specs.declared.ids.ViewId.{ViewId}
 use Rattle.incremental_progress.specs.Ids.{sameViewId, randomLength, timeOf}
 use Rattle.incremental_progress.specs.Views.{start}
 use Rattle.incremental_progress.specs.Entries.{Entry, whole, cut, partEntries}
-use Rattle.incremental_progress.specs.Jobs.{leftEntries, newRun}
+use Rattle.incremental_progress.specs.Jobs.{leftEntries, withOutputs}
 
 -- ---- the supply, ten bytes a draw; a rest of fewer is no draw
 abbrev pub Ten : Type 0
@@ -57,7 +57,7 @@ fillAll (e ∷ es) s = next (fill e s) (λ v s. next (fillAll es s) (λ vs s. go
 
 -- ---- the commit
 unfoldable pub fillViews : Job → List View → ℕ → List View → List Ten → Drawn (List View)
-fillViews j outs n vs s = next (fillAll (leftEntries j n vs) s) (λ ws s. got (newRun start j n ws outs) s)
+fillViews j outs n vs s = next (fillAll (leftEntries j n vs) s) (λ ws s. got (withOutputs start j n ws outs) s)
 
 unfoldable pub fillRuns : Job → List View → List Run → List Ten → Drawn (List Run)
 fillRuns j outs [] s = got [] s

@@ -40,8 +40,8 @@ leftEntries j n vs =
     (pick (has n (j .sources)) (runEntries (intervals (j .parts)) vs) (map whole vs))
 
 -- the destination also gets the outputs, and is sorted
-unfoldable pub newRun : {A : Type 0} → (A → Cut) → Job → ℕ → List A → List A → List A
-newRun start j n left outs = pick (eqb n (j .destination)) (sort start (left ++ outs)) left
+unfoldable pub withOutputs : {A : Type 0} → (A → Cut) → Job → ℕ → List A → List A → List A
+withOutputs start j n left outs = pick (eqb n (j .destination)) (sort start (left ++ outs)) left
 
 -- a run of the new image, with drawn ids left open
 pub record OpenRun : Type 0 where
@@ -50,7 +50,7 @@ pub record OpenRun : Type 0 where
 
 unfoldable pub commitRuns : Job → Image → List OpenRun
 commitRuns j runs =
-    map (λ r. record { id = r .id; entries = newRun entryStart j (r .id) (leftEntries j (r .id) (r .views)) (flatMap partEntries (j .parts)) }) runs
+    map (λ r. record { id = r .id; entries = withOutputs entryStart j (r .id) (leftEntries j (r .id) (r .views)) (flatMap partEntries (j .parts)) }) runs
 
 -- ---- later records of a job
 pub record LaterJob (i j : Job) : Type 0 where

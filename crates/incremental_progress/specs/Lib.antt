@@ -12,4 +12,13 @@ pub mod Commit
 pub mod Patterns
 pub mod Laws
 pub mod Demand
+pub mod DemandLaws
+pub mod OpenPlaces
+pub mod Corollaries
+pub mod Example
 pub mod NewImages
+pub mod Members
+pub mod DrawnIds
+pub mod ByKeys
+pub mod OrderAfter
+pub mod Repeated
