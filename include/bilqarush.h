@@ -156,14 +156,14 @@ uint8_t bilqarush_intersect(const uint8_t *a, size_t a_len, const uint8_t *b, si
                             size_t out_len, size_t *written);
 
 /*
- * The key of the intersection's start. Writes its bytes; none (*written 0, no stop) where bilqarush_intersect stops, finds
- * none or starts unbounded.
- * Stops: 16.
+ * The key of the intersection's start. Writes its bytes; none (*written 0, no stop) where there is no intersection or it
+ * starts unbounded.
+ * Stops: as bilqarush_intersect.
  */
 uint8_t bilqarush_intersect_start_key(const uint8_t *a, size_t a_len, const uint8_t *b, size_t b_len, uint8_t *out,
                                       size_t out_len, size_t *written);
 
-/* The key of the intersection's end, in the same way. Stops: 16. */
+/* The key of the intersection's end, in the same way. Stops: as bilqarush_intersect. */
 uint8_t bilqarush_intersect_end_key(const uint8_t *a, size_t a_len, const uint8_t *b, size_t b_len, uint8_t *out,
                                     size_t out_len, size_t *written);
 

@@ -106,7 +106,10 @@ static void keys_of_an_intersection(void) {
     fill();
     CHECK(wrote(bilqarush_intersect_end_key(BYTES(A_TO_M), BYTES(AFTER_C), out, ROOM, &written), BYTES("m")));
     fill();
-    CHECK(wrote(bilqarush_intersect_end_key(BYTES(A_TO_M), BYTES(PADDED), out, ROOM, &written), BYTES("")));
+    CHECK(wrote(bilqarush_intersect_end_key(BYTES(AFTER_C), BYTES(AFTER_C), out, ROOM, &written), BYTES("")));
+    fill();
+    CHECK(stopped(bilqarush_intersect_start_key(BYTES(PADDED), BYTES(A_TO_M), out, ROOM, &written), 2));
+    CHECK(stopped(bilqarush_intersect_end_key(BYTES(A_TO_M), BYTES(PADDED), out, ROOM, &written), 2));
     fill();
     CHECK(stopped(bilqarush_intersect_start_key(BYTES(A_TO_M), BYTES(AFTER_C), out, 0, &written), 16));
 }

@@ -225,9 +225,9 @@ pub fn intersect<'a>(a: &'a [u8], b: &'a [u8]) -> Result<Option<Joined<'a>>, Sto
 }
 
 /// Writes the key of the intersection's start to the front of `out` and answers that front. It has no bytes where
-/// [`intersect`] stops, finds none or starts unbounded.
+/// there is no intersection or it starts unbounded.
 ///
-/// Stops: 16. [`KEY_LEN`](crate::KEY_LEN) bytes are always enough.
+/// Stops: as [`intersect`]; 16. [`KEY_LEN`](crate::KEY_LEN) bytes are always enough.
 pub fn intersect_start_key<'o>(
     a: &[u8],
     b: &[u8],
@@ -248,9 +248,9 @@ pub fn intersect_start_key<'o>(
 }
 
 /// Writes the key of the intersection's end to the front of `out` and answers that front. It has no bytes where
-/// [`intersect`] stops, finds none or ends unbounded.
+/// there is no intersection or it ends unbounded.
 ///
-/// Stops: 16. [`KEY_LEN`](crate::KEY_LEN) bytes are always enough.
+/// Stops: as [`intersect`]; 16. [`KEY_LEN`](crate::KEY_LEN) bytes are always enough.
 pub fn intersect_end_key<'o>(a: &[u8], b: &[u8], out: &'o mut [u8]) -> Result<&'o mut [u8], Stop> {
     // SAFETY: the slices are lent whole, and `out` is borrowed alone.
     written(out, |to, room, length| unsafe {

@@ -253,6 +253,9 @@ fn refuses_pairs<'a, T: std::fmt::Debug>(call: impl Fn(Vec<u8>, Vec<u8>) -> Resu
 fn intersect_and_union_refuse() {
     refuses_pairs(|a, b| intersect(&a, &b).map(|joined| joined.is_some()));
     refuses_pairs(|a, b| union(&a, &b).map(|joined| joined.is_some()));
+    // Check 16 comes last.
+    refuses_pairs(|a, b| intersect_start_key(&a, &b, &mut []).map(|key| key.len()));
+    refuses_pairs(|a, b| intersect_end_key(&a, &b, &mut [0; 9]).map(|key| key.len()));
 }
 
 #[test]
@@ -276,12 +279,7 @@ fn no_key_where_there_is_no_bound_with_one() {
     let a = range(included("a"), excluded("c"));
     let apart = range(included("d"), Unbounded);
     let whole = range(Unbounded, Unbounded);
-    for (a, b) in [
-        (&a, &apart),
-        (&whole, &whole),
-        (&a, &vec![1]),
-        (&a, &empty()),
-    ] {
+    for (a, b) in [(&a, &apart), (&whole, &whole)] {
         assert_eq!(lend(0, |out| intersect_start_key(a, b, out)), Ok(vec![]));
         assert_eq!(lend(9, |out| intersect_end_key(a, b, out)), Ok(vec![]));
     }

@@ -74,16 +74,44 @@ fn cmp_bound_record(x: [u8; 3], a: &[u8], b: &[u8]) -> Vec<u8> {
     made
 }
 
-fn joined_record(joined: Option<Joined>) -> Vec<u8> {
+/// The place of a key in the slice that it is a part of.
+fn place_in(slice: &[u8], key: &[u8]) -> usize {
+    key.as_ptr() as usize - slice.as_ptr() as usize
+}
+
+/// The place of a bound's key, 16 bits; nothing for an unbounded one.
+fn place_record(slice: &[u8], bound: Bound<&[u8]>) -> Vec<u8> {
+    match bound {
+        Bound::Unbounded => vec![],
+        Bound::Included(key) | Bound::Excluded(key) => {
+            (place_in(slice, key) as u16).to_be_bytes().to_vec()
+        }
+    }
+}
+
+fn joined_record(a: &[u8], b: &[u8], joined: Option<Joined>) -> Vec<u8> {
     let Some(joined) = joined else {
         return vec![0];
     };
-    let sides = [joined.start_from, joined.end_from].map(|side| match side {
-        Side::First => 1,
-        Side::Second => 2,
-    });
-    let range = range_image(joined.range.start, joined.range.end).unwrap();
-    [vec![1], sides.to_vec(), range].concat()
+    let Range { start, end } = joined.range;
+    let side = |side: Side| match side {
+        Side::First => (1, a),
+        Side::Second => (2, b),
+    };
+    let ((from, from_slice), (to, to_slice)) = (side(joined.start_from), side(joined.end_from));
+    [
+        vec![1, from, to],
+        range_image(start, end).unwrap(),
+        place_record(from_slice, start),
+        place_record(to_slice, end),
+    ]
+    .concat()
+}
+
+fn point_record(range: &[u8], point: Option<&[u8]>) -> Vec<u8> {
+    point.map_or(vec![0], |key| {
+        [&[1], &place_record(range, Bound::Included(key))[..], key].concat()
+    })
 }
 
 fn key_of(bound: Bound<&[u8]>) -> Vec<u8> {
@@ -93,15 +121,18 @@ fn key_of(bound: Bound<&[u8]>) -> Vec<u8> {
     }
 }
 
-/// The calls for the keys alone answer those of `intersect`.
+/// The calls for the keys alone answer those of `intersect`, and stop as it does.
 fn keys_agree(a: &[u8], b: &[u8]) {
-    let keys = match intersect(a, b) {
-        Ok(Some(joined)) => [joined.range.start, joined.range.end].map(key_of),
-        _ => [vec![], vec![]],
+    let answer = intersect(a, b).map_err(Stop::number);
+    let keys = match answer {
+        Ok(Some(joined)) => [joined.range.start, joined.range.end].map(|bound| Ok(key_of(bound))),
+        Ok(None) => [Ok(vec![]), Ok(vec![])],
+        Err(stop) => [Err(stop), Err(stop)],
     };
-    let start = lend(keys[0].len(), |out| intersect_start_key(a, b, out));
-    let end = lend(keys[1].len() + 1, |out| intersect_end_key(a, b, out));
-    assert_eq!([start.unwrap(), end.unwrap()], keys);
+    let room = |i: usize| keys[i].as_ref().map_or(0, Vec::len);
+    let start = lend(room(0), |out| intersect_start_key(a, b, out));
+    let end = lend(room(1) + 1, |out| intersect_end_key(a, b, out));
+    assert_eq!([start, end], keys);
 }
 
 fn range_record(call: usize, x: [u8; 3], room: usize, a: &[u8], b: &[u8]) -> Vec<u8> {
@@ -111,14 +142,12 @@ fn range_record(call: usize, x: [u8; 3], room: usize, a: &[u8], b: &[u8]) -> Vec
         3 => outcome(non_empty(a), |is| vec![is.into()]),
         4 => {
             keys_agree(a, b);
-            outcome(intersect(a, b), joined_record)
+            outcome(intersect(a, b), |joined| joined_record(a, b, joined))
         }
-        5 => outcome(union(a, b), joined_record),
+        5 => outcome(union(a, b), |joined| joined_record(a, b, joined)),
         6 => recorded(lend(room, |out| from_prefix(a, out))),
         7 => recorded(lend(room, |out| from_prefix_and_subrange(a, b, out))),
-        8 => outcome(as_point(a), |key| {
-            key.map_or(vec![0], |key| [&[1], key].concat())
-        }),
+        8 => outcome(as_point(a), |key| point_record(a, key)),
         9 => outcome(contains(a, b), |is| vec![is.into()]),
         _ => panic!("call {call}"),
     }
@@ -142,7 +171,7 @@ fn ranges() {
         );
         called += 1;
     }
-    assert_eq!(called, 4328);
+    assert_eq!(called, 4401);
 }
 
 // ---- images and commits
@@ -182,8 +211,7 @@ fn bound_in(image: &[u8], bound: Bound<&[u8]>) -> (u8, Vec<u8>) {
         Bound::Included(key) => (1, key),
         Bound::Excluded(key) => (2, key),
     };
-    let at = key.as_ptr() as usize - image.as_ptr() as usize;
-    let place = &(at as u32).to_be_bytes()[1..];
+    let place = &(place_in(image, key) as u32).to_be_bytes()[1..];
     let length = (key.len() as u16).to_be_bytes();
     (kind, [place, &length].concat())
 }
@@ -222,7 +250,7 @@ fn images() {
         assert_eq!(made, record.bytes, "call {} on {image:x?}", record.call);
         called += 1;
     }
-    assert_eq!(called, 4620);
+    assert_eq!(called, 4903);
 }
 
 /// A commit of what the buffers hold. In a list it makes what it wrote the image.
@@ -256,5 +284,5 @@ fn commits() {
             call => panic!("call {call}"),
         }
     }
-    assert_eq!(called, 3390);
+    assert_eq!(called, 3482);
 }

@@ -2,11 +2,11 @@
 -- Assumes nothing.
 use Prim.Native.Nat.{ℕ, zero, suc, _<_, _≤_}
 use native.Mathlib.Omega.{arith}
-use mathlib.Core.Path.{_≡_, refl, sym, _∙_}
+use mathlib.Core.Path.{_≡_, refl, sym, ap, _∙_}
 use mathlib.Core.Bool.{Bool, true, false}
 use mathlib.Core.List.{List, [], _∷_}
 use lib.IntN.{ℤ}
-use lib.ListN.{length, take, drop}
+use lib.ListN.{length, take, drop, length-take, length-drop}
 use borrow.Author.Tests.{le-leb, lt-leb}
 use Rattle.base.specs.Outcome.{stop, answer}
 use Rattle.base.specs.Table.{NoneOf}
@@ -23,7 +23,7 @@ use Rattle.format.specs.declared.range.RangeRead.the-variants.{At as RangeAt, S
 use Rattle.bytes_range.specs.Prefix.{asPoint}
 use Rattle.bytes_range.specs.Writing.{pointIf}
 use Rattle.bilqarush.specs.Calls.{rangeGiven, nothingLeft, boundGiven, compareOutcome, cmpBoundOutcome, nonEmptyOutcome, containsOutcome, asPointOutcome}
-use Rattle.bilqarush.specs.Answers.{givenOf, orderOf, testOf, PointFound}
+use Rattle.bilqarush.specs.Answers.{givenOf, orderOf, testOf, pointAt}
 use Rattle.bilqarush.specs.declared.Given.{Given}
 use Rattle.bilqarush.specs.declared.Given.the-variants.{Bound as GivenBound, Stop as GivenStop}
 use Rattle.bilqarush.specs.declared.Compared.the-variants.{Order as Ordered, Stop as ComparedStop}
@@ -149,17 +149,17 @@ module _ {l : List ℕ} {r : RangeRead} (w : RangeWhole l r) where
       unfolding containsOutcome
       key-held key k z v = rw (range-is, key-fits key k, ← h, z, v)
 
-      pub point-failing : t ≡ false → PointFound l (asPointOutcome l) (Stop 4)
+      pub point-failing : t ≡ false → Stop 4 ≡ pointAt (asPointOutcome l)
       unfolding asPointOutcome rangeGiven
-      point-failing z = record { meaning = rw (range-is, ← h, z); inside = tt }
+      point-failing z = rw (range-is, ← h, z)
 
-      pub is-point : {u : Bool} → t ≡ true → pointIf u (take (s .len) (drop (s .at) l)) ≡ asPoint (rangeIn l s e) → u ≡ true → PointFound l (asPointOutcome l) (At (s .at) (s .len))
+      pub is-point : {u : Bool} → t ≡ true → pointIf u (take (s .len) (drop (s .at) l)) ≡ asPoint (rangeIn l s e) → u ≡ true → At 3 (s .len) ≡ pointAt (asPointOutcome l)
       unfolding asPointOutcome rangeGiven
-      is-point z v k = record { meaning = rw (range-is, ← h, z, ← v, k); inside = start-inside }
+      is-point z v k = rw (range-is, ← h, z, ← v, k, length-take, length-drop) (ap (At 3) (omega (arith, start-inside)))
 
-      pub no-point : {u : Bool} → t ≡ true → pointIf u (take (s .len) (drop (s .at) l)) ≡ asPoint (rangeIn l s e) → u ≡ false → PointFound l (asPointOutcome l) Nothing
+      pub no-point : {u : Bool} → t ≡ true → pointIf u (take (s .len) (drop (s .at) l)) ≡ asPoint (rangeIn l s e) → u ≡ false → Nothing ≡ pointAt (asPointOutcome l)
       unfolding asPointOutcome rangeGiven
-      no-point z v k = record { meaning = rw (range-is, ← h, z, ← v, k); inside = tt }
+      no-point z v k = rw (range-is, ← h, z, ← v, k)
 
   pub not-tested : {n : ℕ} → r ≡ RangeStop n → testOf (TestedStop n) ≡ nonEmptyOutcome l
   unfolding nonEmptyOutcome
@@ -169,9 +169,9 @@ module _ {l : List ℕ} {r : RangeRead} (w : RangeWhole l r) where
   unfolding containsOutcome
   not-held key q = rw (range-stops q)
 
-  pub not-a-point : {n : ℕ} → r ≡ RangeStop n → PointFound l (asPointOutcome l) (Stop n)
+  pub not-a-point : {n : ℕ} → r ≡ RangeStop n → Stop n ≡ pointAt (asPointOutcome l)
   unfolding asPointOutcome rangeGiven
-  not-a-point q = record { meaning = rw (range-stops q); inside = tt }
+  not-a-point q = rw (range-stops q)
 
 pub ruleset inside-exits = (start-inside, end-inside)
 

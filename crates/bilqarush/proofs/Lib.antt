@@ -1,7 +1,15 @@
 pub mod Checks
 pub mod Pairs
+pub mod PointPlace
+pub mod PartSteps
 pub mod Prefixes
 pub mod Answered
 pub mod ImageExits
 pub mod Example
 pub mod CommitExits
+pub mod Stopping
+pub mod Stops
+pub mod Exchange
+pub mod Lines
+pub mod Reached
+pub mod Crowded

@@ -6,6 +6,7 @@ use mathlib.Core.Bool.{Bool, true, false}
 use mathlib.Core.Option.{Option}
 use mathlib.Core.List.{List}
 use lib.ListN.{take}
+use denote.Ref.{RefT, now}
 use Rattle.base.specs.Outcome.{Outcome, stop, answer}
 use Rattle.key.specs.Order.{Key}
 use Rattle.comparable_range.specs.Range.{nonEmpty, of, intersectSides, unionSides}
@@ -19,8 +20,8 @@ use Rattle.format.specs.declared.range.RangeRead.{RangeRead}
 use Rattle.format.specs.declared.range.RangeRead.the-variants.{At as RangeAt, Stop as RangeStop}
 use Rattle.bytes_range.specs.Writing.{SuppliedInside, suppliedBound, boundKey}
 use Rattle.bytes_range.specs.declared.span.Supplied.{Supplied}
-use Rattle.bilqarush.specs.Calls.{Pair, rangesGiven, Joint, joint, intersectOutcome, unionOutcome}
-use Rattle.bilqarush.specs.Answers.{BothFound, suppliedBy, joinedBy, jointOf, JointInside, JointFound, startKeyOf, endKeyOf}
+use Rattle.bilqarush.specs.Calls.{Pair, rangesGiven, Joint, joint, intersectOutcome, startKeyOf, endKeyOf, intersectStartKeyOutcome, intersectEndKeyOutcome, unionOutcome}
+use Rattle.bilqarush.specs.Answers.{BothFound, suppliedBy, joinedBy, jointOf, JointInside, JointFound, stopNumber, stopOf, keyOf, PartFound}
 use Rattle.bilqarush.specs.declared.Both.{Both}
 use Rattle.bilqarush.specs.declared.Both.the-variants.{Ranges, Stop as BothStop}
 use Rattle.bilqarush.specs.declared.Joined.{Joined}
@@ -140,30 +141,51 @@ module _ {a b : List ℕ} {r : Both} (w : BothFound a b r) {n : ℕ} (q : r ≡ 
 pub ruleset join-exits = (in-1, in-2, in-3, in-4, intersection, union-made, no-intersection, no-union)
 
 -- ---- the keys of an intersection
-module _ {a b : List ℕ} {g : Outcome (Option Joint)} {r : Joined} (w : JointFound a b g r) where
-  pub stopped-start : {n : ℕ} → r ≡ Stop n → take 0 a ≡ startKeyOf g
-  stopped-start q = rw (← (w .meaning), q)
-
-  pub stopped-end : {n : ℕ} → r ≡ Stop n → take 0 a ≡ endKeyOf g
-  stopped-end q = rw (← (w .meaning), q)
-
-  pub no-start : r ≡ Nothing → take 0 a ≡ startKeyOf g
-  no-start q = rw (← (w .meaning), q)
-
-  pub no-end : r ≡ Nothing → take 0 a ≡ endKeyOf g
-  no-end q = rw (← (w .meaning), q)
-
-  module _ {x y : Supplied} (q : r ≡ Found x y) where
+module _ (a b : List ℕ) {r : Joined} where
+  module _ {x y : Supplied} (q : r ≡ Found x y) (w : JointInside a b r) where
     pub start-place : SuppliedInside a b x
-    start-place = (rw q at (w .inside)) .0
+    start-place = (rw q at w) .0
 
     pub end-place : SuppliedInside a b y
-    end-place = (rw q at (w .inside)) .1
+    end-place = (rw q at w) .1
 
-    pub start-key : {k : Key} → k ≡ boundKey (suppliedBound a b x) → k ≡ startKeyOf g
-    start-key h = h ∙ rw (← (w .meaning), q)
+  pub stopped-start : {n : ℕ} → r ≡ Stop n → take 0 a ≡ keyOf (startKeyOf (jointOf a b r))
+  stopped-start q = rw q
 
-    pub end-key : {k : Key} → k ≡ boundKey (suppliedBound a b y) → k ≡ endKeyOf g
-    end-key h = h ∙ rw (← (w .meaning), q)
+  pub stopped-end : {n : ℕ} → r ≡ Stop n → take 0 a ≡ keyOf (endKeyOf (jointOf a b r))
+  stopped-end q = rw q
 
-pub ruleset key-exits = (stopped-start, stopped-end, no-start, no-end, start-place, end-place, start-key, end-key)
+  pub no-start : r ≡ Nothing → take 0 a ≡ keyOf (startKeyOf (jointOf a b r))
+  no-start q = rw q
+
+  pub no-end : r ≡ Nothing → take 0 a ≡ keyOf (endKeyOf (jointOf a b r))
+  no-end q = rw q
+
+  module _ {x y : Supplied} (q : r ≡ Found x y) {k : Key} where
+    pub start-key : k ≡ boundKey (suppliedBound a b x) → k ≡ keyOf (startKeyOf (jointOf a b r))
+    start-key h = h ∙ rw q
+
+    pub end-key : k ≡ boundKey (suppliedBound a b y) → k ≡ keyOf (endKeyOf (jointOf a b r))
+    end-key h = h ∙ rw q
+
+pub ruleset key-exits = (start-place, end-place, stopped-start, stopped-end, no-start, no-end, start-key, end-key)
+
+-- ---- a number and a part that were made of the range that `intersect` answered
+start-number : (a b : List ℕ) (j : Joined) → stopNumber j ≡ stopOf (startKeyOf (jointOf a b j))
+start-number a b (Found s t) = refl
+start-number a b Nothing = refl
+start-number a b (Stop m) = refl
+
+end-number : (a b : List ℕ) (j : Joined) → stopNumber j ≡ stopOf (endKeyOf (jointOf a b j))
+end-number a b (Found s t) = refl
+end-number a b Nothing = refl
+end-number a b (Stop m) = refl
+
+module _ {a b : List ℕ} {j : Joined} (w : JointFound a b (intersectOutcome a b) j) {n : ℕ} {k : RefT Key} (e : n ≡ stopNumber j) where
+  pub start-is-told : now k ≡ keyOf (startKeyOf (jointOf a b j)) → PartFound (intersectStartKeyOutcome a b) (record { stop = n; key = k })
+  unfolding intersectStartKeyOutcome
+  start-is-told f = rw (← (w .meaning)) (record { number = e ∙ start-number a b j; bytes = f })
+
+  pub end-is-told : now k ≡ keyOf (endKeyOf (jointOf a b j)) → PartFound (intersectEndKeyOutcome a b) (record { stop = n; key = k })
+  unfolding intersectEndKeyOutcome
+  end-is-told f = rw (← (w .meaning)) (record { number = e ∙ end-number a b j; bytes = f })

@@ -6,6 +6,7 @@ use mathlib.Core.Option.{Option, none, some}
 use mathlib.Core.List.{List, []}
 use lib.IntN.{ℤ}
 use lib.ListN.{length, take, drop}
+use denote.Ref.{now}
 use Rattle.base.specs.Outcome.{Outcome, stop, answer}
 use Rattle.key.specs.Order.{Key}
 use Rattle.comparable_range.specs.Range.{Bound, boundOf, of}
@@ -29,6 +30,7 @@ use Rattle.bilqarush.specs.declared.Point.{Point}
 use Rattle.bilqarush.specs.declared.Point.the-variants.{At, Nothing as NoPoint, Stop as PointStop}
 use Rattle.bilqarush.specs.declared.Joined.{Joined}
 use Rattle.bilqarush.specs.declared.Joined.the-variants.{Range, Nothing, Stop}
+use Rattle.bilqarush.specs.declared.KeyPart.{KeyPart}
 
 abbrev pub orderOf : Compared → Outcome ℤ
 orderOf (Order z) = answer z
@@ -62,20 +64,11 @@ abbrev pub joinedBy : Sides → BoundSpan → BoundSpan → BoundSpan → BoundS
 joinedBy NoSides s e t f = Nothing
 joinedBy (From x y) s e t f = Range (suppliedBy x s t) (suppliedBy y e f)
 
--- ---- a point: a part of the slice s
-abbrev pub pointOf : List ℕ → Point → Outcome (Option Key)
-pointOf s (At at len) = answer (some (take len (drop at s)))
-pointOf s NoPoint = answer none
-pointOf s (PointStop n) = stop n
-
-abbrev pub PointInside : List ℕ → Point → Type 0
-PointInside s (At at len) = at + len ≤ length s
-PointInside s NoPoint = Unit
-PointInside s (PointStop n) = Unit
-
-pub record PointFound (s : List ℕ) (g : Outcome (Option Key)) (r : Point) : Type 0 where
-  pub meaning : pointOf s r ≡ g
-  pub inside : PointInside s r
+-- ---- a point: its start is included, so its key stands behind the head byte and the 2 bytes of its length
+abbrev pub pointAt : Outcome (Option Key) → Point
+pointAt (stop n) = PointStop n
+pointAt (answer none) = NoPoint
+pointAt (answer (some k)) = At 3 (length k)
 
 -- ---- a range whose bounds are parts of the slices a and b
 abbrev pub supply : List ℕ → List ℕ → Supplied → Supply
@@ -95,13 +88,22 @@ pub record JointFound (a b : List ℕ) (g : Outcome (Option Joint)) (r : Joined)
   pub meaning : jointOf a b r ≡ g
   pub inside : JointInside a b r
 
--- ---- the key of an answered range's bound: empty after a stop, for no range, and for an unbounded bound
-abbrev pub startKeyOf : Outcome (Option Joint) → Key
-startKeyOf (stop n) = []
-startKeyOf (answer none) = []
-startKeyOf (answer (some j)) = boundKey (j .start .bound)
+-- ---- the key of a bound of an intersection
+-- the number of the stop that the code answered, 0 for none
+abbrev pub stopNumber : Joined → ℕ
+stopNumber (Range s e) = 0
+stopNumber Nothing = 0
+stopNumber (Stop n) = n
 
-abbrev pub endKeyOf : Outcome (Option Joint) → Key
-endKeyOf (stop n) = []
-endKeyOf (answer none) = []
-endKeyOf (answer (some j)) = boundKey (j .end .bound)
+-- the same of an outcome, and its key, no byte after a stop
+abbrev pub stopOf : {A : Type 0} → Outcome A → ℕ
+stopOf (stop n) = n
+stopOf (answer a) = 0
+
+abbrev pub keyOf : Outcome Key → Key
+keyOf (stop n) = []
+keyOf (answer k) = k
+
+pub record PartFound (g : Outcome Key) (r : KeyPart) : Type 0 where
+  pub number : r .stop ≡ stopOf g
+  pub bytes : now (r .key) ≡ keyOf g

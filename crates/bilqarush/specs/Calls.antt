@@ -15,7 +15,7 @@ use Rattle.comparable_range.specs.declared.Sides.the-variants.{Nothing, From}
 use Rattle.format.specs.Range.{readRange, writeRange}
 use Rattle.format.specs.Whole.{whole, keyGiven}
 use Rattle.bytes_range.specs.Prefix.{fromPrefix, asPoint}
-use Rattle.bytes_range.specs.Writing.{joinedTo}
+use Rattle.bytes_range.specs.Writing.{boundKey, joinedTo}
 
 -- ---- what is given
 -- a range that passes `non_empty`
@@ -80,6 +80,27 @@ joint p (From s e) =
 
 unfoldable pub intersectOutcome : List ℕ → List ℕ → Outcome (Option Joint)
 intersectOutcome a b = andThen (rangesGiven a b) (λ p. answer (joint p (intersectSides (p .first) (p .second))))
+
+-- the key of a bound of an intersection: no byte where there is no range, and for an unbounded bound
+abbrev pub startKey : Option Joint → Key
+startKey none = []
+startKey (some j) = boundKey (j .start .bound)
+
+abbrev pub endKey : Option Joint → Key
+endKey none = []
+endKey (some j) = boundKey (j .end .bound)
+
+abbrev pub startKeyOf : Outcome (Option Joint) → Outcome Key
+startKeyOf g = andThen g (λ j. answer (startKey j))
+
+abbrev pub endKeyOf : Outcome (Option Joint) → Outcome Key
+endKeyOf g = andThen g (λ j. answer (endKey j))
+
+unfoldable pub intersectStartKeyOutcome : List ℕ → List ℕ → Outcome Key
+intersectStartKeyOutcome a b = startKeyOf (intersectOutcome a b)
+
+unfoldable pub intersectEndKeyOutcome : List ℕ → List ℕ → Outcome Key
+intersectEndKeyOutcome a b = endKeyOf (intersectOutcome a b)
 
 unfoldable pub unionOutcome : List ℕ → List ℕ → Outcome (Option Joint)
 unionOutcome a b = andThen (rangesGiven a b) (λ p. answer (joint p (unionSides (p .first) (p .second))))

@@ -5,7 +5,10 @@ use mathlib.Core.Path.{_≡_}
 use mathlib.Core.List.{List, [], _∷_}
 use lib.ListN.{length}
 use Rattle.base.specs.Outcome.{answer, stop}
-use Rattle.bilqarush.specs.ImageCalls.{listOutcome}
+use Rattle.comparable_range.specs.declared.Kind.the-variants.{Included}
+use Rattle.bilqarush.specs.ImageCalls.{listOutcome, compactedEffectiveRangeOutcome, ViewRangeFound}
+use Rattle.bilqarush.specs.declared.images.ViewRange.{ViewRange}
+use Rattle.bilqarush.specs.declared.images.ViewRange.the-variants.{At}
 
 abbrev pub exampleImage : List ℕ
 exampleImage =
@@ -35,3 +38,10 @@ ExampleIsListed = listOutcome exampleImage 113 ≡ answer exampleText
 -- one byte less
 abbrev pub ExampleNeedsItsRoom : Type 0
 ExampleNeedsItsRoom = listOutcome exampleImage 112 ≡ stop 16
+
+-- the effective range of the first view, [61 63]: where its keys stand in the image
+abbrev pub exampleRange : ViewRange
+exampleRange = At (record { kind = Included; at = 66; len = 1 }) (record { kind = Included; at = 69; len = 1 })
+
+abbrev pub ExampleRangeIsFound : Type 0
+ExampleRangeIsFound = ViewRangeFound exampleImage (compactedEffectiveRangeOutcome exampleImage 0 0) exampleRange

@@ -20,8 +20,8 @@ pub use images::list;
 ghost use mathlib.Core.Path.{_≡_};
 ghost use lib.ListN.{length};
 ghost use Rattle.base.specs.Outcome.{reported, lent};
-ghost use Rattle.bilqarush.specs.Calls.{boundGiven, compareOutcome, cmpBoundOutcome, nonEmptyOutcome, containsOutcome, asPointOutcome, intersectOutcome, unionOutcome, fromPrefixOutcome, fromPrefixAndSubrangeOutcome};
-ghost use Rattle.bilqarush.specs.Answers.{givenOf, orderOf, testOf, BothFound, suppliedBy, joinedBy, PointFound, JointFound, startKeyOf, endKeyOf};
+ghost use Rattle.bilqarush.specs.Calls.{boundGiven, compareOutcome, cmpBoundOutcome, nonEmptyOutcome, containsOutcome, asPointOutcome, intersectOutcome, startKeyOf, endKeyOf, intersectStartKeyOutcome, intersectEndKeyOutcome, unionOutcome, fromPrefixOutcome, fromPrefixAndSubrangeOutcome};
+ghost use Rattle.bilqarush.specs.Answers.{givenOf, orderOf, testOf, BothFound, suppliedBy, joinedBy, pointAt, jointOf, JointInside, JointFound, stopNumber, keyOf, PartFound};
 
 // A comparison's answer: -1, 0 or 1, or the number of a stop.
 pub enum Compared {
@@ -152,9 +152,12 @@ pub fn contains(range: &[u8], key: &[u8]) -> Tested
     }
 }
 
+// Where the key of an included start stands in a range: behind the head byte and the 2 bytes of its length.
+const START_KEY: usize = 3;
+
 // The key of a range that is one point.
 pub fn as_point(range: &[u8]) -> Point
-    ensures { λ r. ⌜ PointFound (now (range .entry)) (asPointOutcome (now (range .entry))) r ⌝ }
+    ensures { λ r. ⌜ r ≡ pointAt (asPointOutcome (now (range .entry))) ⌝ }
 {
     match format::range_whole(range) {
         RangeRead::Stop(n) => Point::Stop(n),
@@ -165,7 +168,7 @@ pub fn as_point(range: &[u8]) -> Point
         } => {
             if format::passes(range, start, end) {
                 if bytes_range::span::is_point(range, start, end) {
-                    return Point::At(start.at, start.len);
+                    return Point::At(START_KEY, start.len);
                 }
                 return Point::Nothing;
             }
@@ -244,11 +247,23 @@ pub fn intersect<'a>(a: &'a [u8], b: &'a [u8]) -> Joined
     }
 }
 
-// The key of the intersection's start, as a part of the slice that supplied it.
-pub fn intersect_start_key<'a>(a: &'a [u8], b: &'a [u8]) -> &'a [u8]
-    ensures { λ r. ⌜ now r ≡ startKeyOf (intersectOutcome (now (a .entry)) (now (b .entry))) ⌝ }
+// The number of the stop that an intersection answered, or 0.
+fn stop_number(joined: Joined) -> u8
+    ensures { λ r. ⌜ r ≡ stopNumber joined ⌝ }
 {
-    match intersect(a, b) {
+    match joined {
+        Joined::Stop(n) => n,
+        Joined::Nothing => 0,
+        Joined::Range(_, _) => 0,
+    }
+}
+
+// The key of an intersection's start, as a part of the slice that supplied it; an empty part where there is none.
+fn start_part<'a>(a: &'a [u8], b: &'a [u8], joined: Joined) -> &'a [u8]
+    requires { ⌜ JointInside (now a) (now b) joined ⌝ }
+    ensures { λ r. ⌜ now r ≡ keyOf (startKeyOf (jointOf (now (a .entry)) (now (b .entry)) joined)) ⌝ }
+{
+    match joined {
         Joined::Stop(_) => &a[..0],
         Joined::Nothing => &a[..0],
         Joined::Range(start, _) => bytes_range::span::supplied_key(a, b, start),
@@ -256,14 +271,42 @@ pub fn intersect_start_key<'a>(a: &'a [u8], b: &'a [u8]) -> &'a [u8]
 }
 
 // The key of its end.
-pub fn intersect_end_key<'a>(a: &'a [u8], b: &'a [u8]) -> &'a [u8]
-    ensures { λ r. ⌜ now r ≡ endKeyOf (intersectOutcome (now (a .entry)) (now (b .entry))) ⌝ }
+fn end_part<'a>(a: &'a [u8], b: &'a [u8], joined: Joined) -> &'a [u8]
+    requires { ⌜ JointInside (now a) (now b) joined ⌝ }
+    ensures { λ r. ⌜ now r ≡ keyOf (endKeyOf (jointOf (now (a .entry)) (now (b .entry)) joined)) ⌝ }
 {
-    match intersect(a, b) {
+    match joined {
         Joined::Stop(_) => &a[..0],
         Joined::Nothing => &a[..0],
         Joined::Range(_, end) => bytes_range::span::supplied_key(a, b, end),
     }
+}
+
+// The number of the stop, or 0, and a key as a part of the slice that supplied it. The part is empty after a stop, where
+// there is no intersection, and for an unbounded bound.
+pub struct KeyPart<'a> {
+    pub stop: u8,
+    pub key: &'a [u8],
+}
+
+// The key of the intersection's start.
+pub fn intersect_start_key<'a>(a: &'a [u8], b: &'a [u8]) -> KeyPart<'a>
+    ensures { λ r. ⌜ PartFound (intersectStartKeyOutcome (now (a .entry)) (now (b .entry))) r ⌝ }
+{
+    let joined = intersect(a, b);
+    let stop = stop_number(joined);
+    let key = start_part(a, b, joined);
+    KeyPart { stop, key }
+}
+
+// The key of its end.
+pub fn intersect_end_key<'a>(a: &'a [u8], b: &'a [u8]) -> KeyPart<'a>
+    ensures { λ r. ⌜ PartFound (intersectEndKeyOutcome (now (a .entry)) (now (b .entry))) r ⌝ }
+{
+    let joined = intersect(a, b);
+    let stop = stop_number(joined);
+    let key = end_part(a, b, joined);
+    KeyPart { stop, key }
 }
 
 // The union of two ranges, where the Rust has one.

@@ -5,22 +5,27 @@ use native.Mathlib.Omega.{arith}
 use mathlib.Core.Path.{_≡_, refl, sym, ap, _∙_}
 use mathlib.Core.List.{List, [], _∷_, _++_, append-assoc}
 use lib.ListN.{length, length-append}
-use Rattle.base.specs.Outcome.{Outcome, lent, reported, writtenTo, stops-16, keeps, wrote, stands}
+use borrow.Author.Tests.{le-leb}
+use Rattle.base.specs.Outcome.{Outcome, answer, lent, reported, writtenTo, stops-16, keeps, wrote, stands}
 use Rattle.base.specs.Splice.{splice, splice-splice}
 use Rattle.base.specs.declared.Written.{Written}
 use Rattle.base.specs.declared.Written.the-variants.{Wrote, Stop}
 use Rattle.format.specs.Number.{writeNumber}
+use Rattle.format.specs.Range.{kindNumber}
 use Rattle.format.specs.declared.range.BoundSpan.{BoundSpan}
 use Rattle.format.proofs.Layouts.{number-length}
+use Rattle.bytes_range.specs.Writing.{SuppliedInside, suppliedBound, boundKey}
 use Rattle.bytes_range.specs.declared.span.Supplied.{Supplied}
 use Rattle.bytes_range.proofs.RangePut.{at-front}
+use Rattle.bilqarush.specs.Calls.{startKeyOf, endKeyOf}
+use Rattle.bilqarush.specs.Answers.{jointOf, JointInside}
 use Rattle.bilqarush.specs.declared.Point.{Point}
 use Rattle.bilqarush.specs.declared.Point.the-variants.{At, Nothing as NoPoint, Stop as PointStop}
 use Rattle.bilqarush.specs.declared.Joined.{Joined}
 use Rattle.bilqarush.specs.declared.Joined.the-variants.{Range as Bounds, Nothing, Stop as JoinedStop}
 use Rattle.bilqarush.specs.declared.images.ViewRange.{ViewRange}
 use Rattle.bilqarush.specs.declared.images.ViewRange.the-variants.{At as RangeAt, Stop as RangeStop}
-use Rattle.bilqarush_c.specs.Layouts.{kindNumber, sideNumber, place, bound, supplied, nothing, pointTo, joinedTo, viewRangeTo}
+use Rattle.bilqarush_c.specs.Layouts.{sideNumber, place, bound, supplied, nothing, pointTo, joinedTo, viewRangeTo, keyTo}
 
 -- ---- lengths
 place-length : (at len : ℕ) → length (place at len) ≡ 16
@@ -252,3 +257,58 @@ module _ (d k : List ℕ) where
   key-there h q = stands d k refl h (at-front d k q)
 
 pub ruleset key-exits = (key-short, key-kept, key-wrote, key-there)
+
+-- ---- the key of a bound of an intersection
+no-bytes : (d : List ℕ) → writtenTo (length d) [] ≡ answer []
+no-bytes d = rw (le-leb 0 (length d) (omega arith))
+
+module _ (a b d : List ℕ) {j : Joined} where
+  module _ {n : ℕ} (q : j ≡ JoinedStop n) where
+    pub start-refused : Stop n ≡ reported (keyTo (length d) (startKeyOf (jointOf a b j)))
+    start-refused = rw q
+
+    pub start-refused-kept : d ≡ lent d (keyTo (length d) (startKeyOf (jointOf a b j)))
+    start-refused-kept = rw q
+
+    pub end-refused : Stop n ≡ reported (keyTo (length d) (endKeyOf (jointOf a b j)))
+    end-refused = rw q
+
+    pub end-refused-kept : d ≡ lent d (keyTo (length d) (endKeyOf (jointOf a b j)))
+    end-refused-kept = rw q
+
+  module _ (q : j ≡ Nothing) where
+    pub no-start : Wrote 0 ≡ reported (keyTo (length d) (startKeyOf (jointOf a b j)))
+    no-start = rw (q, no-bytes d)
+
+    pub no-start-kept : d ≡ lent d (keyTo (length d) (startKeyOf (jointOf a b j)))
+    no-start-kept = rw (q, no-bytes d)
+
+    pub no-end : Wrote 0 ≡ reported (keyTo (length d) (endKeyOf (jointOf a b j)))
+    no-end = rw (q, no-bytes d)
+
+    pub no-end-kept : d ≡ lent d (keyTo (length d) (endKeyOf (jointOf a b j)))
+    no-end-kept = rw (q, no-bytes d)
+
+  module _ {s e : Supplied} (q : j ≡ Bounds s e) where
+    pub start-place : JointInside a b j → SuppliedInside a b s
+    start-place w = (rw q at w) .0
+
+    pub end-place : JointInside a b j → SuppliedInside a b e
+    end-place w = (rw q at w) .1
+
+    module _ {k : List ℕ} where
+      pub start-wrote : k ≡ boundKey (suppliedBound a b s) → {w : Written} → w ≡ reported (writtenTo (length d) k) → w ≡ reported (keyTo (length d) (startKeyOf (jointOf a b j)))
+      start-wrote h x = x ∙ rw (q, h)
+
+      pub start-there : k ≡ boundKey (suppliedBound a b s) → {f : List ℕ} → f ≡ lent d (writtenTo (length d) k) → f ≡ lent d (keyTo (length d) (startKeyOf (jointOf a b j)))
+      start-there h x = x ∙ rw (q, h)
+
+      pub end-wrote : k ≡ boundKey (suppliedBound a b e) → {w : Written} → w ≡ reported (writtenTo (length d) k) → w ≡ reported (keyTo (length d) (endKeyOf (jointOf a b j)))
+      end-wrote h x = x ∙ rw (q, h)
+
+      pub end-there : k ≡ boundKey (suppliedBound a b e) → {f : List ℕ} → f ≡ lent d (writtenTo (length d) k) → f ≡ lent d (keyTo (length d) (endKeyOf (jointOf a b j)))
+      end-there h x = x ∙ rw (q, h)
+
+pub ruleset start-exits = (start-refused, start-refused-kept, no-start, no-start-kept, start-place, start-wrote, start-there)
+
+pub ruleset end-exits = (end-refused, end-refused-kept, no-end, no-end-kept, end-place, end-wrote, end-there)

@@ -6,10 +6,10 @@ use mathlib.Core.List.{List}
 use mathlib.Core.Option.{Option}
 use lib.IntN.{ℤ}
 use lib.ListN.{length}
-use Rattle.base.specs.Outcome.{Outcome, stop, answer, lent, reported, writtenTo}
+use Rattle.base.specs.Outcome.{Outcome, stop, answer, lent, reported}
 use Rattle.base.specs.declared.Written.{Written}
-use Rattle.bilqarush.specs.Calls.{asPointOutcome, Joint}
-use Rattle.bilqarush.specs.Answers.{orderOf, PointFound, JointFound}
+use Rattle.bilqarush.specs.Calls.{asPointOutcome, Joint, intersectOutcome, startKeyOf, endKeyOf, intersectStartKeyOutcome, intersectEndKeyOutcome}
+use Rattle.bilqarush.specs.Answers.{stopOf, orderOf, pointAt, jointOf, JointInside, JointFound}
 use Rattle.bilqarush.specs.ImageCalls.{checkedAnswer, compactedEffectiveRangeOutcome, ViewRangeFound}
 use Rattle.bilqarush.specs.declared.Compared.{Compared}
 use Rattle.bilqarush.specs.declared.Compared.the-variants.{Order}
@@ -18,8 +18,8 @@ use Rattle.bilqarush.specs.declared.Joined.{Joined}
 use Rattle.bilqarush.specs.declared.images.Checked.{Checked}
 use Rattle.bilqarush.specs.declared.images.Checked.the-variants.{Accepted, Stop}
 use Rattle.bilqarush.specs.declared.images.ViewRange.{ViewRange}
-use Rattle.bilqarush_c.specs.Told.{stopOf, slot, sized, counted, Told}
-use Rattle.bilqarush_c.specs.Layouts.{pointTo, joinedTo, viewRangeTo, PointTold, JointTold, ViewRangeTold}
+use Rattle.bilqarush_c.specs.Told.{slot, sized, counted, Told}
+use Rattle.bilqarush_c.specs.Layouts.{pointTo, joinedTo, viewRangeTo, keyTo, JointTold, ViewRangeTold}
 
 -- ---- numbers
 pub order-kept : {c : Compared} {z : ℤ} (before : ℤ) → c ≡ Order z → z ≡ slot before (orderOf c)
@@ -52,21 +52,28 @@ module _ {d e : List ℕ} {w : Written} {before after r : ℕ} (q : r ≡ stopOf
         count = s ∙ ap (λ v. slot before (counted v)) x ∙ ap (slot before) (counted-reported o);
       }
 
-  pub key-told :
-      {k l : List ℕ}
-      → k ≡ l
-      → w ≡ reported (writtenTo (length d) k)
-      → e ≡ lent d (writtenTo (length d) k)
-      → Told (writtenTo (length d) l) d e before after r
-  key-told t x y = told (x ∙ ap (λ m. reported (writtenTo (length d) m)) t) (y ∙ ap (λ m. lent d (writtenTo (length d) m)) t)
-
   pub point-told :
-      {range : List ℕ} {p : Point}
-      → PointFound range (asPointOutcome range) p
+      (range : List ℕ) {p : Point}
+      → p ≡ pointAt (asPointOutcome range)
       → w ≡ reported (pointTo (length d) p)
       → e ≡ lent d (pointTo (length d) p)
-      → PointTold range d e before after r
-  point-told {range} {p} f x y = record { point = p; found = f; told = told x y }
+      → Told (pointTo (length d) (pointAt (asPointOutcome range))) d e before after r
+  point-told range f x y = told (x ∙ ap (λ q. reported (pointTo (length d) q)) f) (y ∙ ap (λ q. lent d (pointTo (length d) q)) f)
+
+  module _ {a b : List ℕ} {j : Joined} (f : JointFound a b (intersectOutcome a b) j) where
+    pub start-told :
+        w ≡ reported (keyTo (length d) (startKeyOf (jointOf a b j)))
+        → e ≡ lent d (keyTo (length d) (startKeyOf (jointOf a b j)))
+        → Told (keyTo (length d) (intersectStartKeyOutcome a b)) d e before after r
+    unfolding intersectStartKeyOutcome
+    start-told x y = rw (← (f .meaning)) (told x y)
+
+    pub end-told :
+        w ≡ reported (keyTo (length d) (endKeyOf (jointOf a b j)))
+        → e ≡ lent d (keyTo (length d) (endKeyOf (jointOf a b j)))
+        → Told (keyTo (length d) (intersectEndKeyOutcome a b)) d e before after r
+    unfolding intersectEndKeyOutcome
+    end-told x y = rw (← (f .meaning)) (told x y)
 
   pub joint-told :
       {a b : List ℕ} {g : Outcome (Option Joint)} {j : Joined}
@@ -83,6 +90,10 @@ module _ {d e : List ℕ} {w : Written} {before after r : ℕ} (q : r ≡ stopOf
       → e ≡ lent d (viewRangeTo (length d) v)
       → ViewRangeTold image run view d e before after r
   view-range-told {v = v} f x y = record { range = v; found = f; told = told x y }
+
+-- where the range that `intersect` answered stands
+pub joint-places : {a b : List ℕ} {g : Outcome (Option Joint)} {j : Joined} → JointFound a b g j → JointInside a b j
+joint-places f = f .inside
 
 -- ---- check_image
 module _ {x : Checked} {o : Outcome Unit} (e : checkedAnswer x ≡ o) where

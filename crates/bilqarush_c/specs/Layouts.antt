@@ -1,19 +1,19 @@
 -- Answers that are more than a number, as bytes in a lent buffer. A bound is told by its kind, the slice that its key stands
--- in, and the key's place and length there. Where a key stands is the call's to choose: it is named, and what holds of it is
--- what the call without C says.
+-- in, and the key's place and length there. Where a bound's key stands is the call's to choose: it is named, and what holds
+-- of it is what the call without C says.
 use Prim.Native.Nat.{ℕ}
 use mathlib.Core.List.{List, [], _∷_, _++_}
 use lib.ListN.{length}
-use Rattle.base.specs.Outcome.{Outcome, stop, writtenTo}
-use Rattle.comparable_range.specs.declared.Kind.{Kind}
-use Rattle.comparable_range.specs.declared.Kind.the-variants.{Unbounded, Included, Excluded}
+use Rattle.base.specs.Outcome.{Outcome, stop, andThen, writtenTo}
+use Rattle.key.specs.Order.{Key}
 use Rattle.comparable_range.specs.declared.Side.{Side}
 use Rattle.comparable_range.specs.declared.Side.the-variants.{First, Second}
 use Rattle.format.specs.Number.{writeNumber}
+use Rattle.format.specs.Range.{kindNumber}
 use Rattle.format.specs.declared.range.BoundSpan.{BoundSpan}
 use Rattle.bytes_range.specs.declared.span.Supplied.{Supplied}
-use Rattle.bilqarush.specs.Calls.{asPointOutcome, Joint}
-use Rattle.bilqarush.specs.Answers.{PointFound, JointFound}
+use Rattle.bilqarush.specs.Calls.{Joint}
+use Rattle.bilqarush.specs.Answers.{JointFound}
 use Rattle.bilqarush.specs.ImageCalls.{compactedEffectiveRangeOutcome, ViewRangeFound}
 use Rattle.bilqarush.specs.declared.Point.{Point}
 use Rattle.bilqarush.specs.declared.Point.the-variants.{At, Nothing as NoPoint, Stop as PointStop}
@@ -23,11 +23,6 @@ use Rattle.bilqarush.specs.declared.images.ViewRange.{ViewRange}
 use Rattle.bilqarush.specs.declared.images.ViewRange.the-variants.{At as RangeAt, Stop as RangeStop}
 use mathlib.Core.Option.{Option}
 use Rattle.bilqarush_c.specs.Told.{Told}
-
-abbrev pub kindNumber : Kind → ℕ
-kindNumber Unbounded = 0
-kindNumber Included = 1
-kindNumber Excluded = 2
 
 abbrev pub sideNumber : Side → ℕ
 sideNumber First = 1
@@ -62,12 +57,11 @@ unfoldable pub viewRangeTo : ℕ → ViewRange → Outcome (List ℕ)
 viewRangeTo room (RangeAt start end) = writtenTo room (bound start ++ bound end)
 viewRangeTo room (RangeStop n) = stop n
 
--- ---- the calls that answer with places
-pub record PointTold (range d e : List ℕ) (before after r : ℕ) : Type 0 where
-  pub point : Point
-  pub found : PointFound range (asPointOutcome range) point
-  pub told : Told (pointTo (length d) point) d e before after r
+-- the bytes of a key
+abbrev pub keyTo : ℕ → Outcome Key → Outcome (List ℕ)
+keyTo room g = andThen g (λ k. writtenTo room k)
 
+-- ---- the calls that answer with places of their own choosing
 pub record JointTold (a b : List ℕ) (g : Outcome (Option Joint)) (d e : List ℕ) (before after r : ℕ) : Type 0 where
   pub joined : Joined
   pub found : JointFound a b g joined

@@ -7,10 +7,7 @@ use lib.ListN.{length}
 use Rattle.base.specs.Outcome.{Outcome, stop, answer, lent}
 use Rattle.base.specs.declared.Written.{Written}
 use Rattle.base.specs.declared.Written.the-variants.{Wrote, Stop}
-
-abbrev pub stopOf : {A : Type 0} → Outcome A → ℕ
-stopOf (stop n) = n
-stopOf (answer a) = 0
+use Rattle.bilqarush.specs.Answers.{stopOf}
 
 -- what a slot holds afterwards
 abbrev pub slot : {A : Type 0} → A → Outcome A → A

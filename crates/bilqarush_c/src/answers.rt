@@ -12,7 +12,10 @@ ghost use Prim.Native.Nat.{_≤_, _+_};
 ghost use lib.ListN.{length};
 ghost use Rattle.base.specs.Outcome.{lent, reported, writtenTo};
 ghost use Rattle.base.specs.Splice.{splice};
-ghost use Rattle.bilqarush_c.specs.Layouts.{kindNumber, sideNumber, place, bound, supplied, nothing, pointTo, joinedTo, viewRangeTo};
+ghost use Rattle.format.specs.Range.{kindNumber};
+ghost use Rattle.bilqarush.specs.Calls.{startKeyOf, endKeyOf};
+ghost use Rattle.bilqarush.specs.Answers.{jointOf, JointInside};
+ghost use Rattle.bilqarush_c.specs.Layouts.{sideNumber, place, bound, supplied, nothing, pointTo, joinedTo, viewRangeTo, keyTo};
 
 fn kind_number(k: Kind) -> u8
     ensures { λ r. ⌜ r ≡ kindNumber k ⌝ }
@@ -133,7 +136,7 @@ pub fn put_view_range(range: ViewRange, out: &mut [u8]) -> Written
 }
 
 // The bytes of a key.
-pub fn put_key(key: &[u8], out: &mut [u8]) -> Written
+fn put_key(key: &[u8], out: &mut [u8]) -> Written
     ensures { λ r. ⌜ r ≡ reported (writtenTo (length (now (out .entry))) (now (key .entry))) ⌝ }
     ensures { λ _. ⌜ now (out .exit) ≡ lent (now (out .entry)) (writtenTo (length (now (out .entry))) (now (key .entry))) ⌝ }
 {
@@ -142,4 +145,30 @@ pub fn put_key(key: &[u8], out: &mut [u8]) -> Written
     }
     format::put(out, 0, key);
     Written::Wrote(key.len())
+}
+
+// The key of an intersection's start: no byte where it has none.
+pub fn put_start_key<'a>(a: &'a [u8], b: &'a [u8], joined: Joined, out: &mut [u8]) -> Written
+    requires { ⌜ JointInside (now a) (now b) joined ⌝ }
+    ensures { λ r. ⌜ r ≡ reported (keyTo (length (now (out .entry))) (startKeyOf (jointOf (now (a .entry)) (now (b .entry)) joined))) ⌝ }
+    ensures { λ _. ⌜ now (out .exit) ≡ lent (now (out .entry)) (keyTo (length (now (out .entry))) (startKeyOf (jointOf (now (a .entry)) (now (b .entry)) joined))) ⌝ }
+{
+    match joined {
+        Joined::Stop(n) => Written::Stop(n),
+        Joined::Nothing => Written::Wrote(0),
+        Joined::Range(start, _) => put_key(bytes_range::span::supplied_key(a, b, start), out),
+    }
+}
+
+// The key of its end.
+pub fn put_end_key<'a>(a: &'a [u8], b: &'a [u8], joined: Joined, out: &mut [u8]) -> Written
+    requires { ⌜ JointInside (now a) (now b) joined ⌝ }
+    ensures { λ r. ⌜ r ≡ reported (keyTo (length (now (out .entry))) (endKeyOf (jointOf (now (a .entry)) (now (b .entry)) joined))) ⌝ }
+    ensures { λ _. ⌜ now (out .exit) ≡ lent (now (out .entry)) (keyTo (length (now (out .entry))) (endKeyOf (jointOf (now (a .entry)) (now (b .entry)) joined))) ⌝ }
+{
+    match joined {
+        Joined::Stop(n) => Written::Stop(n),
+        Joined::Nothing => Written::Wrote(0),
+        Joined::Range(_, end) => put_key(bytes_range::span::supplied_key(a, b, end), out),
+    }
 }

@@ -2,9 +2,10 @@
 use bilqarush::Checked;
 ghost use mathlib.Core.Path.{_≡_};
 ghost use lib.ListN.{length};
+ghost use Rattle.bilqarush.specs.Answers.{stopOf};
 ghost use Rattle.bilqarush.specs.ImageCalls.{checkImageOutcome, listOutcome};
 ghost use Rattle.incremental_progress.specs.Commit.{commitOutcome};
-ghost use Rattle.bilqarush_c.specs.Told.{stopOf, Told};
+ghost use Rattle.bilqarush_c.specs.Told.{Told};
 ghost use Rattle.bilqarush_c.specs.Layouts.{ViewRangeTold};
 
 #[no_mangle]

@@ -8,11 +8,10 @@ use bilqarush::Compared;
 use bilqarush::Tested;
 ghost use mathlib.Core.Path.{_≡_};
 ghost use lib.ListN.{length};
-ghost use Rattle.base.specs.Outcome.{lent, writtenTo};
-ghost use Rattle.bilqarush.specs.Calls.{compareOutcome, cmpBoundOutcome, nonEmptyOutcome, containsOutcome, intersectOutcome, unionOutcome, fromPrefixOutcome, fromPrefixAndSubrangeOutcome};
-ghost use Rattle.bilqarush.specs.Answers.{orderOf, testOf, startKeyOf, endKeyOf};
-ghost use Rattle.bilqarush_c.specs.Told.{stopOf, slot, counted, Told};
-ghost use Rattle.bilqarush_c.specs.Layouts.{PointTold, JointTold};
+ghost use Rattle.bilqarush.specs.Calls.{compareOutcome, cmpBoundOutcome, nonEmptyOutcome, containsOutcome, asPointOutcome, intersectOutcome, intersectStartKeyOutcome, intersectEndKeyOutcome, unionOutcome, fromPrefixOutcome, fromPrefixAndSubrangeOutcome};
+ghost use Rattle.bilqarush.specs.Answers.{stopOf, orderOf, testOf, pointAt};
+ghost use Rattle.bilqarush_c.specs.Told.{slot, counted, Told};
+ghost use Rattle.bilqarush_c.specs.Layouts.{pointTo, keyTo, JointTold};
 
 fn tell_order(c: Compared, order: &mut i8) -> u8
     ensures { λ r. ⌜ r ≡ stopOf (orderOf c) ⌝ }
@@ -95,7 +94,7 @@ pub extern "C" fn bilqarush_contains(range: &[u8], key: &[u8], is: &mut bool) ->
 
 #[no_mangle]
 pub extern "C" fn bilqarush_as_point(range: &[u8], out: &mut [u8], written: &mut usize) -> u8
-    ensures { λ r. ⌜ PointTold (now (range .entry)) (now (out .entry)) (now (out .exit)) (now (written .entry)) (now (written .exit)) r ⌝ }
+    ensures { λ r. ⌜ Told (pointTo (length (now (out .entry))) (pointAt (asPointOutcome (now (range .entry))))) (now (out .entry)) (now (out .exit)) (now (written .entry)) (now (written .exit)) r ⌝ }
 {
     tell(answers::put_point(bilqarush::as_point(range), out), written)
 }
@@ -122,10 +121,10 @@ pub extern "C" fn bilqarush_intersect_start_key<'a>(
     out: &mut [u8],
     written: &mut usize,
 ) -> u8
-    ensures { λ r. ⌜ Told (writtenTo (length (now (out .entry))) (startKeyOf (intersectOutcome (now (a .entry)) (now (b .entry))))) (now (out .entry)) (now (out .exit)) (now (written .entry)) (now (written .exit)) r ⌝ }
+    ensures { λ r. ⌜ Told (keyTo (length (now (out .entry))) (intersectStartKeyOutcome (now (a .entry)) (now (b .entry)))) (now (out .entry)) (now (out .exit)) (now (written .entry)) (now (written .exit)) r ⌝ }
 {
     tell(
-        answers::put_key(bilqarush::intersect_start_key(a, b), out),
+        answers::put_start_key(a, b, bilqarush::intersect(a, b), out),
         written,
     )
 }
@@ -137,10 +136,10 @@ pub extern "C" fn bilqarush_intersect_end_key<'a>(
     out: &mut [u8],
     written: &mut usize,
 ) -> u8
-    ensures { λ r. ⌜ Told (writtenTo (length (now (out .entry))) (endKeyOf (intersectOutcome (now (a .entry)) (now (b .entry))))) (now (out .entry)) (now (out .exit)) (now (written .entry)) (now (written .exit)) r ⌝ }
+    ensures { λ r. ⌜ Told (keyTo (length (now (out .entry))) (intersectEndKeyOutcome (now (a .entry)) (now (b .entry)))) (now (out .entry)) (now (out .exit)) (now (written .entry)) (now (written .exit)) r ⌝ }
 {
     tell(
-        answers::put_key(bilqarush::intersect_end_key(a, b), out),
+        answers::put_end_key(a, b, bilqarush::intersect(a, b), out),
         written,
     )
 }

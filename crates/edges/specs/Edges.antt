@@ -1,5 +1,5 @@
--- The starred edges of document 01, as rows of one checked list: what a public call's definition answers, and what the
--- paper says. Later sections add rows. Letters are ASCII.
+-- The starred edges of document 01, as rows of one checked list: what the definition of a call, of `subtract_from` or of a
+-- durable interval answers, and what the paper says. Later sections add rows. Letters are ASCII.
 use Prim.Native.Nat.{ℕ}
 use mathlib.Core.Path.{_≡_}
 use mathlib.Core.Bool.{Bool, true, false}

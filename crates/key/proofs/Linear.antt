@@ -7,7 +7,7 @@ use mathlib.Core.Bool.{not}
 use mathlib.Core.List.{[], _∷_, _++_}
 use lib.IntN.{negℤ}
 use Rattle.key.specs.Order.{Key, swap, orElse, atMost, isLess, sign, cmpNumber, cmpKey, keyBelow, keyAtMost}
-use Rattle.key.specs.Laws.{Linear, KeyOrderIsTotal, ProperPrefixComesFirst}
+use Rattle.key.specs.Laws.{Linear, KeyOrderIsTotal, FirstUnequalByteDecides, ProperPrefixComesFirst}
 use Rattle.key.specs.declared.Order.{Order}
 use Rattle.key.specs.declared.Order.the-variants.{Less, Equal, Greater}
 
@@ -152,6 +152,10 @@ pub same-front : (p a b : Key) → cmpKey (p ++ a) (p ++ b) ≡ cmpKey a b
 unfolding cmpKey
 same-front [] a b = refl
 same-front (x ∷ p) a b = rw (cmp-self cmpNumber number-linear x) (same-front p a b)
+
+pub first-unequal-byte-decides : FirstUnequalByteDecides
+unfolding cmpKey
+first-unequal-byte-decides front x y a b h = same-front front (x ∷ a) (y ∷ b) ∙ rw (number-less x y h)
 
 -- below is not at most, the other way round
 pub below-not : (a b : Key) → keyBelow a b ≡ not (keyAtMost b a)

@@ -1,5 +1,5 @@
 -- The promises on the order of keys. Their proofs are in proofs/Linear.antt.
-use Prim.Native.Nat.{ℕ}
+use Prim.Native.Nat.{ℕ, _<_}
 use mathlib.Core.Path.{_≡_}
 use mathlib.Core.List.{List, _∷_, _++_}
 use Rattle.key.specs.Order.{Key, cmpKey, swap}
@@ -15,6 +15,10 @@ pub record Linear {A : Type 0} (cmp : A → A → Order) : Type 0 where
 
 abbrev pub KeyOrderIsTotal : Type 0
 KeyOrderIsTotal = Linear cmpKey
+
+-- The first unequal byte decides, whatever follows it: keys are not ordered by their lengths.
+abbrev pub FirstUnequalByteDecides : Type 0
+FirstUnequalByteDecides = (front : Key) (x y : ℕ) (a b : List ℕ) → x < y → cmpKey (front ++ x ∷ a) (front ++ y ∷ b) ≡ Less
 
 abbrev pub ProperPrefixComesFirst : Type 0
 ProperPrefixComesFirst = (a : Key) (x : ℕ) (b : List ℕ) → cmpKey a (a ++ x ∷ b) ≡ Less

@@ -67,7 +67,7 @@ fn cmp_bytes(a: &[u8], b: &[u8]) -> Order
     let mut i = 0;
     while i < a.len() {
         if b.len() <= i {
-            return Order::Greater;
+            return Order::Greater; // b is a prefix of a
         }
         if a[i] < b[i] {
             return Order::Less;
@@ -78,7 +78,7 @@ fn cmp_bytes(a: &[u8], b: &[u8]) -> Order
         i += 1;
     }
     if i < b.len() {
-        Order::Less
+        Order::Less // a is a prefix of b
     } else {
         Order::Equal
     }

@@ -5,3 +5,4 @@ pub mod LineExits
 pub mod Loops
 pub mod WholeListing
 pub mod Short
+pub mod Rows

@@ -1,3 +1,4 @@
 pub mod Listing
 pub mod Spans
 pub mod Laws
+pub mod Rows

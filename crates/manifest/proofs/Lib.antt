@@ -9,3 +9,4 @@ pub mod JobExits
 pub mod WholeExits
 pub mod IndexExits
 pub mod AnchorExits
+pub mod Examples

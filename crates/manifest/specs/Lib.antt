@@ -3,3 +3,4 @@ pub mod Checks
 pub mod Faults
 pub mod Spans
 pub mod Laws
+pub mod Examples

@@ -47,6 +47,15 @@ pub fn bytes(answer: &[u8], place: Place, piece: &[u8]) -> Place {
     }
 }
 
+// A number of 16 bits. A greater one differs.
+pub fn number(answer: &[u8], place: Place, n: usize) -> Place {
+    if 65535 < n {
+        return Place::Differs;
+    }
+    let both = [(n / 256) as u8, (n % 256) as u8];
+    bytes(answer, place, &both)
+}
+
 // The part of a slice that a call's answer names. One that the slice does not have differs.
 pub fn part(answer: &[u8], place: Place, s: &[u8], at: usize, len: usize) -> Place {
     if s.len() < at {
@@ -61,11 +70,7 @@ pub fn part(answer: &[u8], place: Place, s: &[u8], at: usize, len: usize) -> Pla
 
 // The same as a key of an image: its 16-bit length stands before it.
 pub fn key_image(answer: &[u8], place: Place, s: &[u8], at: usize, len: usize) -> Place {
-    if 65535 < len {
-        return Place::Differs;
-    }
-    let length = [(len / 256) as u8, (len % 256) as u8];
-    part(answer, bytes(answer, place, &length), s, at, len)
+    part(answer, number(answer, place, len), s, at, len)
 }
 
 // Whether all of an answer agreed.

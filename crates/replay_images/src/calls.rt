@@ -23,18 +23,9 @@ fn span_is(answer: &[u8], place: Place, at: usize, len: usize) -> Place {
     if 16777215 < at {
         return Place::Differs;
     }
-    if 65535 < len {
-        return Place::Differs;
-    }
-    let low = at % 65536;
-    let numbers = [
-        (at / 65536) as u8,
-        (low / 256) as u8,
-        (low % 256) as u8,
-        (len / 256) as u8,
-        (len % 256) as u8,
-    ];
-    answer::bytes(answer, place, &numbers)
+    let high = [(at / 65536) as u8];
+    let low = answer::number(answer, answer::bytes(answer, place, &high), at % 65536);
+    answer::number(answer, low, len)
 }
 
 fn bound_is(answer: &[u8], place: Place, bound: BoundSpan) -> Place {

@@ -56,7 +56,8 @@ fn point_is(answer: &[u8], range: &[u8], p: Point) -> bool {
         Point::At(at, len) => {
             let front = [0, 1];
             let place = answer::bytes(answer, Place::At(0), &front);
-            answer::is_end(answer, answer::part(answer, place, range, at, len))
+            let key = answer::number(answer, place, at);
+            answer::is_end(answer, answer::part(answer, key, range, at, len))
         }
     }
 }
@@ -115,10 +116,20 @@ fn bound_of(answer: &[u8], place: Place, a: &[u8], b: &[u8], x: Supplied) -> Pla
     }
 }
 
+// The place of a bound's key in the range that supplied it.
+fn place_of(answer: &[u8], place: Place, x: Supplied) -> Place {
+    let bound = x.bound;
+    let kind = bound.kind;
+    if kind::is_keyed(kind) {
+        return answer::number(answer, place, bound.at);
+    }
+    place
+}
+
 fn range_is(answer: &[u8], a: &[u8], b: &[u8], start: Supplied, end: Supplied) -> bool {
     let front = range_front(answer, start, end);
-    let place = bound_of(answer, front, a, b, start);
-    answer::is_end(answer, bound_of(answer, place, a, b, end))
+    let keys = bound_of(answer, bound_of(answer, front, a, b, start), a, b, end);
+    answer::is_end(answer, place_of(answer, place_of(answer, keys, start), end))
 }
 
 fn joined_is(answer: &[u8], a: &[u8], b: &[u8], j: Joined) -> bool {
@@ -147,32 +158,59 @@ fn key_is(key: &[u8], a: &[u8], b: &[u8], x: Supplied) -> bool {
     }
 }
 
-fn both_empty(start: &[u8], end: &[u8]) -> bool {
-    if start.len() == 0 {
-        return end.len() == 0;
+// Whether a number is the one that is due, with no key.
+fn no_key(stop: u8, key: &[u8], due: u8) -> bool {
+    if stop == due {
+        return key.len() == 0;
     }
     false
 }
 
-// Whether the two keys of an intersection are those of the range that it answered.
-fn keys_are(start: &[u8], end: &[u8], a: &[u8], b: &[u8], j: Joined) -> bool {
+// Whether the numbers and the keys of an intersection's bounds are those of what it answered.
+fn keys_are<'a>(
+    m: u8,
+    start: &'a [u8],
+    n: u8,
+    end: &'a [u8],
+    a: &'a [u8],
+    b: &'a [u8],
+    j: Joined,
+) -> bool {
     match j {
-        Joined::Stop(_) => both_empty(start, end),
-        Joined::Nothing => both_empty(start, end),
+        Joined::Stop(stop) => {
+            if no_key(m, start, stop) {
+                return no_key(n, end, stop);
+            }
+            false
+        }
+        Joined::Nothing => {
+            if no_key(m, start, 0) {
+                return no_key(n, end, 0);
+            }
+            false
+        }
         Joined::Range(s, e) => {
-            if key_is(start, a, b, s) {
-                return key_is(end, a, b, e);
+            if m == 0 {
+                if key_is(start, a, b, s) {
+                    if n == 0 {
+                        return key_is(end, a, b, e);
+                    }
+                }
             }
             false
         }
     }
 }
 
-fn intersect<'a>(answer: &[u8], a: &'a [u8], b: &'a [u8]) -> bool {
-    let j = bilqarush::intersect(a, b);
+fn keys_agree<'a>(a: &'a [u8], b: &'a [u8], j: Joined) -> bool {
     let start = bilqarush::intersect_start_key(a, b);
     let end = bilqarush::intersect_end_key(a, b);
-    if keys_are(start, end, a, b, j) {
+    keys_are(start.stop, start.key, end.stop, end.key, a, b, j)
+}
+
+fn intersect<'a>(answer: &[u8], a: &'a [u8], b: &'a [u8]) -> bool {
+    let j = bilqarush::intersect(a, b);
+    if keys_agree(a, b, j) {
         return joined_is(answer, a, b, j);
     }
     false

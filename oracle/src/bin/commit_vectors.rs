@@ -154,7 +154,7 @@ fn write(small: bool, seed: u64, count: usize) {
         bytes: 0,
     };
     let (mut classes, mut pairs) = (HashMap::new(), BTreeMap::new());
-    for part in 1..=8 {
+    for part in 1..=10 {
         let before = (out.records(), out.bytes);
         let mut made = Inputs {
             to: &mut out,
@@ -172,7 +172,9 @@ fn write(small: bool, seed: u64, count: usize) {
             5 => inputs::ceilings(&mut made),
             6 => inputs::random(count, &mut made),
             7 => inputs::lists(count / 10, &mut made),
-            _ => inputs::most_pieces(&mut made),
+            8 => inputs::most_pieces(&mut made),
+            9 => inputs::uncovered_among_runs(&mut made),
+            _ => inputs::ends(&mut made),
         }
         (classes, pairs) = (made.classes, made.pairs);
         let (records, accepted) = out.records();

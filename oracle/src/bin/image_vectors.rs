@@ -131,7 +131,7 @@ fn write(small: bool, seed: u64, count: usize) {
         bytes: 0,
     };
     let mut classes = HashMap::new();
-    for part in 1..=9 {
+    for part in 1..=11 {
         let before = (out.records(), out.bytes);
         let mut made = Inputs {
             to: &mut out,
@@ -149,7 +149,9 @@ fn write(small: bool, seed: u64, count: usize) {
             6 => inputs::damage(&mut made),
             7 => inputs::pairs(&mut made),
             8 => inputs::ceilings(&mut made),
-            _ => inputs::random(count, &mut made),
+            9 => inputs::random(count, &mut made),
+            10 => inputs::runs_with_views(&mut made),
+            _ => inputs::ends(&mut made),
         }
         classes = made.classes;
         let (records, bytes) = (out.records() - before.0, out.bytes - before.1);

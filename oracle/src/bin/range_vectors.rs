@@ -2,11 +2,45 @@
 //! inputs, and the answers of the original functions (through the library) or the
 //! number of the check that stops the call. README.md has the record format.
 use oracle::answers::ranges::{value, Input, Sided, Value};
-use oracle::checks::Checked;
-use oracle::inputs::ranges::{exhaustive, full_buffers, long_keys, random, stops, Inputs, Takes};
+use oracle::checks::{key_places, read_range, Checked};
+use oracle::inputs::ranges::{
+    exhaustive, full_buffers, long_keys, random, stops, together, Inputs, Takes,
+};
 use oracle::inputs::{range_image, Chance};
+use oracle::{key_of, Bound};
 use std::collections::{HashMap, HashSet};
 use std::io::Write;
+
+/// The place of a bound's key in the argument that gave it, 16 bits; nothing for one without a key.
+fn place(argument: &[u8], bound: &Bound, at: usize) -> Vec<u8> {
+    key_of(bound).map_or(vec![], |key| {
+        assert_eq!(argument[at..at + key.len()], key[..]);
+        u16::try_from(at).unwrap().to_be_bytes().to_vec()
+    })
+}
+
+/// Sides, the range, then the places of its keys.
+fn joined(input: &Input, Sided { range, start, end }: &Sided) -> Vec<u8> {
+    let given = |side: &u8| {
+        let argument = if *side == 1 { &input.a } else { &input.b };
+        (argument, key_places(&read_range(argument).unwrap()))
+    };
+    let ((from, (start_at, _)), (to, (_, end_at))) = (given(start), given(end));
+    [
+        vec![1, *start, *end],
+        range_image(range),
+        place(from, &range.0, start_at),
+        place(to, &range.1, end_at),
+    ]
+    .concat()
+}
+
+/// The place of the start's key, then the key.
+fn point(range: &[u8], key: Vec<u8>) -> Vec<u8> {
+    let at = key_places(&read_range(range).unwrap()).0;
+    let bound = Bound::Included(key.clone());
+    [vec![1], place(range, &bound, at), key].concat()
+}
 
 /// What follows the answer's first byte.
 fn answer(input: &Input) -> Checked<Vec<u8>> {
@@ -14,10 +48,8 @@ fn answer(input: &Input) -> Checked<Vec<u8>> {
         Value::Order(order) => vec![(order + 1) as u8],
         Value::Is(is) => vec![u8::from(is)],
         Value::Point(None) | Value::Joined(None) => vec![0],
-        Value::Point(Some(key)) => [vec![1], key].concat(),
-        Value::Joined(Some(Sided { range, start, end })) => {
-            [vec![1, start, end], range_image(&range)].concat()
-        }
+        Value::Point(Some(key)) => point(&input.a, key),
+        Value::Joined(Some(sided)) => joined(input, &sided),
         Value::Range(range) => {
             let image = range_image(&range);
             if input.room < image.len() {
@@ -80,6 +112,7 @@ fn write(small: bool, seed: u64, count: usize) {
             full_buffers(call, &mut inputs);
         }
         random(call, count, &mut inputs);
+        together(call, &mut inputs);
         classes = inputs.classes;
         let (records, bytes) = (out.seen.len() - before.0, out.bytes - before.1);
         eprintln!("call {call}: {records} records, {bytes} bytes");

@@ -1,6 +1,6 @@
 //! The checks of keys, bounds and ranges.
 use super::{Checked, Reader, BUFFER_CEILING, KEY_CEILING};
-use crate::{non_empty, Bound, Key, Range};
+use crate::{key_of, non_empty, Bound, Key, Range};
 
 /// Checks 1 to 3 of a buffer that holds one range, its rest included.
 pub fn read_range(buffer: &[u8]) -> Checked<Range> {
@@ -8,6 +8,13 @@ pub fn read_range(buffer: &[u8]) -> Checked<Range> {
     let range = reader.range()?;
     reader.end()?;
     Ok(range)
+}
+
+/// The places of a range's keys in its image: after the head, and after each key's length. That of
+/// a bound without a key stands for nothing.
+pub fn key_places(range: &Range) -> (usize, usize) {
+    let start = key_of(&range.0).map_or(0, |key| 2 + key.len());
+    (1 + 2, 1 + start + 2)
 }
 
 /// Check 3 of a key or prefix that is a buffer of its own.

@@ -4,7 +4,7 @@ use crate::call::{hexadecimal, Call, Question};
 use oracle::answers::commits::{self, Deeds};
 use oracle::answers::images::{at, effective, listing};
 use oracle::answers::ranges::{value, Sided, Value};
-use oracle::checks::{check_image, read_range, Checked, PlacedRun, Stop};
+use oracle::checks::{check_image, key_places, read_range, Checked, PlacedRun, Stop};
 use oracle::inputs::range_image;
 use oracle::{key_of, kind_of, Bound, Range};
 
@@ -99,10 +99,10 @@ fn fits(bytes: Bytes, room: usize) -> Expected {
 /// three calls on an intersection.
 pub fn expected_of(known: &Checked<Value>, question: &Question) -> Expected {
     let bytes = match (question.call, known) {
+        (_, Err(stop)) => return Err(*stop),
         (Call::IntersectStartKey, Ok(Value::Joined(Some(sided)))) => key_bytes(&sided.range.0),
         (Call::IntersectEndKey, Ok(Value::Joined(Some(sided)))) => key_bytes(&sided.range.1),
         (Call::IntersectStartKey | Call::IntersectEndKey, _) => Bytes::default(),
-        (_, Err(stop)) => return Err(*stop),
         (_, Ok(Value::Order(order))) => return Ok(Answer::Order(*order as i8)),
         (_, Ok(Value::Is(is))) => return Ok(Answer::Is(*is)),
         (_, Ok(Value::Point(None) | Value::Joined(None))) => plain(vec![0]),
@@ -124,21 +124,15 @@ fn key_bytes(bound: &Bound) -> Bytes {
     plain(key_of(bound).cloned().unwrap_or_default())
 }
 
-/// Places of the keys in a range's image: after the head, and after each key's length.
-fn places(range: &Range) -> (usize, usize) {
-    let start = key_of(&range.0).map_or(0, |key| 2 + key.len());
-    (1 + 2, 1 + start + 2)
-}
-
 fn point(range: &Range) -> Bytes {
     let mut answer = plain(vec![1]);
-    answer.push_place(&range.0, places(range).0);
+    answer.push_place(&range.0, key_places(range).0);
     answer
 }
 
 /// For each bound its kind, the side that gave it and the place of its key there.
 fn joined(sided: &Sided, question: &Question) -> Bytes {
-    let given = [&question.a, &question.b].map(|image| places(&read_range(image).unwrap()));
+    let given = [&question.a, &question.b].map(|image| key_places(&read_range(image).unwrap()));
     let mut answer = plain(vec![1]);
     let Sided { range, start, end } = sided;
     answer.bytes.extend([kind_of(&range.0), *start]);

@@ -144,9 +144,15 @@ pub fn add(shards: &mut Shards, full: bool) {
     let parts: [fn(&mut Inputs); 5] = [
         inputs::odd,
         inputs::draws,
-        inputs::damage,
+        |out| {
+            inputs::damage(out);
+            inputs::ends(out);
+        },
         inputs::pairs,
-        inputs::ceilings,
+        |out| {
+            inputs::ceilings(out);
+            inputs::uncovered_among_runs(out);
+        },
     ];
     for part in parts {
         shards.add(move |to, chance| made(to, chance, !full, part));

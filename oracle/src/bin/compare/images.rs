@@ -131,9 +131,15 @@ pub fn add(shards: &mut Shards, full: bool) {
         inputs::several,
         inputs::places,
         inputs::sums,
-        inputs::damage,
+        |out| {
+            inputs::damage(out);
+            inputs::ends(out);
+        },
         inputs::pairs,
-        inputs::ceilings,
+        |out| {
+            inputs::ceilings(out);
+            inputs::runs_with_views(out);
+        },
     ];
     for part in parts {
         shards.add(move |to, chance| made(to, chance, !full, part));

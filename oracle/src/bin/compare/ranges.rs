@@ -6,7 +6,8 @@ use crate::shards::Shards;
 use oracle::answers::ranges::{self, value, Input};
 use oracle::inputs::ranges::every::{self, ALPHABET};
 use oracle::inputs::ranges::{
-    damaged, full_buffers, long_keys, near_ceilings, near_full, random, stops, Inputs, Takes,
+    damaged, full_buffers, long_keys, near_ceilings, near_full, random, stops, together, Inputs,
+    Takes,
 };
 use oracle::inputs::{all_bounds, all_ranges, small_keys, Chance};
 use oracle::{Key, Range};
@@ -106,6 +107,7 @@ pub fn add(shards: &mut Shards, full: bool) {
         shards.add(move |to, chance| {
             made(to, chance, |out| {
                 stops(call, out);
+                together(call, out);
                 long_keys(call, out);
                 full_buffers(call, out);
             })

@@ -65,15 +65,12 @@ pub struct Wrong {
 impl Wrong {
     /// Whether a call can go wrong in this way at all.
     pub fn can_be(&self) -> bool {
-        let keys = matches!(self.call, Call::IntersectStartKey | Call::IntersectEndKey);
         match self.kind {
             Kind::Value => self.call != Call::CheckImage,
             Kind::Slot => self.call != Call::CheckImage,
             Kind::Count | Kind::Rest | Kind::AfterStop | Kind::After | Kind::Before => {
                 self.call.writes()
             }
-            // Their only stop is 16.
-            Kind::OtherStop => !keys,
             _ => true,
         }
     }

@@ -1,13 +1,13 @@
 //! Commits at the ceilings.
 use super::faults::sound;
 use super::{two_runs, Inputs, Model};
-use crate::answers::commits::Case;
-use crate::checks::{BUFFER_CEILING, KEY_CEILING};
+use crate::answers::commits::{whole, Case};
+use crate::checks::{Stop, BUFFER_CEILING, KEY_CEILING};
 use crate::inputs::{
-    before, from, from_to, image, part, run, since, table, tables, until, view, write_job,
-    EVERYTHING,
+    before, from, from_to, image, included, part, run, since, table, tables, until, view,
+    write_job, EVERYTHING,
 };
-use crate::{Bound, Key, Part, Run, View};
+use crate::{Bound, Key, Part, Range, Run, View};
 
 /// So many views of 61 bytes that start at z.
 fn many_views(count: usize) -> Vec<View> {
@@ -212,6 +212,42 @@ fn cut_in_each_run(out: &mut Inputs) {
         sources[63] = 33;
         let case = Model::new(&runs, 33, &sources, &parts).case(&mut out.chance, 0);
         out.good(&case);
+    }
+}
+
+/// 64 runs. The destination, at the first place, inside or at the last, has a view of the unfinished
+/// part's output, which is written up to c: with c in it the view holds a key that is not durable
+/// (12), and without c it is replaced. In another run, a source or not, any view of the output may
+/// stand.
+pub fn uncovered_among_runs(out: &mut Inputs) {
+    let outputs = tables(200, &[(b"b", b"c")]);
+    let parts = [
+        part(before(b"m"), false, &outputs),
+        part(from(b"m"), true, &tables(201, &[(b"n", b"p")])),
+    ];
+    let shown = |visible: Option<Range>| View {
+        visible,
+        ..whole(&outputs[0])
+    };
+    let runs: Vec<Run> = (0..64)
+        .map(|place| run(place * 7, &[view(1, b"a", Some(b"k"), None)]))
+        .collect();
+    for place in [0, 31, 63] {
+        let destination = runs[place].id;
+        let sources = [runs[62].id, destination];
+        let mut put = |at: usize, visible: Option<Range>, stop: Stop| {
+            let mut runs = runs.clone();
+            runs[at].views.push(shown(visible));
+            let model = Model::new(&runs, destination, &sources, &parts);
+            let case = model.case(&mut out.chance, 0);
+            assert_eq!(out.put(&case), stop);
+        };
+        put(place, None, 12);
+        put(place, Some(included(b"c", b"c")), 12);
+        put(place, since(b"bz"), 12);
+        put(place, Some(from_to(b"b", b"c")), 0);
+        put(62, None, 0);
+        put(40, None, 0);
     }
 }
 

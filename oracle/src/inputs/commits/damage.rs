@@ -1,8 +1,9 @@
 //! Damaged jobs and images.
+use super::faults::sound;
 use super::random::random_model;
 use super::{two_runs, Inputs};
 use crate::answers::commits::Case;
-use crate::inputs::images::harm;
+use crate::inputs::images::{cut_after, harm};
 use crate::inputs::{before, from_to, part, tables, view, write_image, write_job, Field, Mark};
 
 /// One place of a job damaged, in every way; and a few of its image.
@@ -111,6 +112,30 @@ fn damaged_images(good: &Case, out: &mut Inputs) {
             case.image[at] ^= *out.chance.of(&[1, 0x80, 0x40, 0xFF]);
             out.put(&case);
         }
+    }
+}
+
+/// The job, or the image with a job that is good or cut, ends right after a flag or a head in which
+/// padding is set (2), or none (1).
+pub fn ends(out: &mut Inputs) {
+    let model = sound();
+    let good = model.case(&mut out.chance, 0);
+    for job in cut_after(&good.job, &write_job(&model.job).1, &[0, 1, 0x40]) {
+        out.put(&Case {
+            job,
+            ..good.clone()
+        });
+    }
+    let images = cut_after(&good.image, &write_image(&model.runs).1, &[1, 0x40]);
+    for (place, image) in images.into_iter().enumerate() {
+        let mut case = Case {
+            image,
+            ..good.clone()
+        };
+        if place % 2 == 1 {
+            case.job.truncate(3);
+        }
+        out.put(&case);
     }
 }
 

@@ -9,8 +9,8 @@ pub mod near;
 mod odd;
 mod random;
 
-pub use ceilings::ceilings;
-pub use damage::{damage, damaged};
+pub use ceilings::{ceilings, uncovered_among_runs};
+pub use damage::{damage, damaged, ends};
 pub use draws::{draws, most_pieces};
 pub use faults::pairs;
 pub use lists::{lists, random_list};

@@ -1,10 +1,10 @@
 //! Images at the ceilings.
 use super::faults::two_views;
-use super::{rooms, Inputs};
+use super::{all_places, rooms, Inputs};
 use crate::answers::images::{listing, Call};
 use crate::checks::{check_image, BUFFER_CEILING, KEY_CEILING};
 use crate::inputs::{from_to, image, included, run, until, view, write_image};
-use crate::{Bound, Run};
+use crate::{Bound, Run, View};
 
 pub fn ceilings(out: &mut Inputs) {
     long_keys(out);
@@ -69,6 +69,36 @@ fn many_runs(out: &mut Inputs) {
             runs[63].id = 62 * 3;
             out.put_each(&image(&runs));
         }
+    }
+}
+
+/// 64 runs that all have views: each place, the listing, and a fault in the last view.
+pub fn runs_with_views(out: &mut Inputs) {
+    let views = [
+        view(1, b"a", Some(b"c"), None),
+        view(2, b"b", None, Some(from_to(b"d", b"f"))),
+        view(3, b"d", None, None),
+    ];
+    let mut runs: Vec<Run> = (0..64)
+        .map(|place| run((63 - place) * 68_174_084, &views[..1 + place as usize % 3]))
+        .collect();
+    runs[63].views = views.to_vec();
+    let good = image(&runs);
+    let text = listing(&check_image(&good).unwrap()).len() as u64;
+    let mut calls = all_places(&runs);
+    calls.extend([(63, 3), (64, 0)].map(|(run, view)| Call::EffectiveRange(run, view)));
+    calls.extend([Call::CheckImage, Call::List(text - 1), Call::List(text)]);
+    out.put(&good, &calls);
+    let faults: [fn(&mut View); 4] = [
+        |view| view.visible = Some(from_to(b"e", b"e")),
+        |view| view.table.last = Some(b"c".to_vec()),
+        |view| view.table.first = b"c".to_vec(),
+        |view| view.table.index_len = 1 << 53,
+    ];
+    for fault in faults {
+        let mut runs = runs.clone();
+        fault(&mut runs[63].views[2]);
+        out.put_each(&image(&runs));
     }
 }
 

@@ -1,6 +1,7 @@
 //! Images, and the calls on them.
 mod ceilings;
 mod damage;
+mod ends;
 pub mod every;
 mod faults;
 pub mod near;
@@ -8,8 +9,9 @@ mod papers;
 mod random;
 mod views;
 
-pub use ceilings::ceilings;
+pub use ceilings::{ceilings, runs_with_views};
 pub use damage::{damage, harm};
+pub use ends::{cut_after, ends};
 pub use faults::pairs;
 pub use papers::from_the_papers;
 pub use random::{random, random_runs};

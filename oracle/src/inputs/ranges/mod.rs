@@ -6,6 +6,7 @@ mod long;
 mod near;
 mod random;
 mod stops;
+mod together;
 
 pub use damaged::damaged;
 pub use exhaustive::exhaustive;
@@ -13,6 +14,7 @@ pub use long::{full_buffers, long_keys};
 pub use near::{near_ceilings, near_full};
 pub use random::{family_image, random};
 pub use stops::{damages, lengths_at, stops};
+pub use together::together;
 
 use super::{range_image, Chance};
 use crate::answers::ranges::{value, Input, Value, CMP_BOUND};

@@ -60,7 +60,7 @@ fn good_image() -> Vec<u8> {
 }
 
 /// Images of short ranges: good ones, and some for each of the stops 1 to 4.
-fn order_images() -> Vec<Vec<u8>> {
+pub fn order_images() -> Vec<Vec<u8>> {
     let good = good_image();
     let mut list = vec![
         good.clone(),
@@ -109,7 +109,7 @@ pub fn stops(call: u8, out: &mut Inputs) {
     damaged(call, out);
 }
 
-fn long(length: usize) -> Vec<u8> {
+pub fn long(length: usize) -> Vec<u8> {
     vec![b'k'; length]
 }
 
