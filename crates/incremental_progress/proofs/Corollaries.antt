@@ -98,25 +98,10 @@ last-taken (one-step {s = step} {ss} b bs) given i r s e = go (commitStep given 
           | inr x ↦ earlier-image (n .ids) (ih new (n .image) r (n .stands) x)
         ]
 
--- ---- what a list of commits leaves, by the values that are read
-record Left (first last record′ : List ℕ) (before now : Image) (progress : Job) : Type 0 where
-  runs : map (λ r. r .id) now ≡ map (λ r. r .id) before
-  shows : (q : Table → Bool) (x : Key) → map (λ r. shown q x (r .views)) now ≡ map (λ r. expected progress (r .id) q x (shown q x (r .views))) before
-  others : map (otherBytes progress) now ≡ map (otherBytes progress) before
-  alone : (ids : List ℕ) (room : ℕ) (new : List ℕ) → commitOutcome first record′ ids room ≡ answer new → AlikeBut (imagePattern (commitRuns progress before)) last new
-  fits : Fits (imagePattern (commitRuns progress before)) last
-
+-- ---- what a list of commits leaves
 stands : {first record′ : List ℕ} {steps : List Step} → CommitList first steps record′ → Stands first (after first steps) record′
 unfolding Demand-3
 stands {first} {steps = steps} c = rw (c .last) at (demand-3 first steps (c .bytes) (c .records) (c .later))
-
-left-of : {first last record′ : List ℕ} {before now : Image} {progress : Job} → Stands first last record′ → ReadAs first last record′ before now progress → Left first last record′ before now progress
-left-of {first} {last} {record′} {before} {now} {progress} s v =
-    let x : s .before ≡ before = same-answer (s .before-is) (v .before-is) in
-    let y : s .now ≡ now = same-answer (s .now-is) (v .now-is) in
-    let z : s .progress ≡ progress = same-answer (s .progress-is) (v .progress-is) in
-    let l : Left first last record′ (s .before) (s .now) (s .progress) = record { runs = s .runs; shows = s .shows; others = s .others; alone = s .alone; fits = s .fits } in
-    rw (x, y, z) at l
 
 -- ---- run by run
 pub runs-go-by-their-id : RunsGoByTheirId
@@ -172,8 +157,21 @@ found f g n (r ∷ rs) (s ∷ ss) e m = go (eqb n (s .id)) refl (found f g n rs 
 
 -- ---- the statements
 module _ {first record′ : List ℕ} {steps : List Step} {before now : Image} {progress : Job} (c : CommitList first steps record′) (v : ReadAs first (after first steps) record′ before now progress) where
-  rest : Left first (after first steps) record′ before now progress
-  rest = left-of (stands c) v
+  -- what is read is what stands
+  is-before : stands c .before ≡ before
+  is-before = same-answer (stands c .before-is) (v .before-is)
+
+  is-now : stands c .now ≡ now
+  is-now = same-answer (stands c .now-is) (v .now-is)
+
+  is-progress : stands c .progress ≡ progress
+  is-progress = same-answer (stands c .progress-is) (v .progress-is)
+
+  same-runs : map (λ r. r .id) now ≡ map (λ r. r .id) before
+  same-runs = rw (← is-now, ← is-before) (stands c .runs)
+
+  pattern-fits : Fits (imagePattern (commitRuns progress before)) (after first steps)
+  pattern-fits = rw (← is-progress, ← is-before) (stands c .fits)
 
   taken : Taken before record′
   taken = last-taken (c .records) first before record′ (stored first before (c .bytes) (v .before-is)) (c .last)
@@ -183,7 +181,7 @@ module _ {first record′ : List ℕ} {steps : List Step} {before now : Image} {
 
   -- how often the run with an id shows a key
   counts : (q : Table → Bool) (x : Key) (n : ℕ) → Found (λ r. shown q x (r .views)) (λ r. expected progress (r .id) q x (shown q x (r .views))) n now before
-  counts q x n = found _ _ n now before (rest .runs) (rest .shows q x)
+  counts q x n = found _ _ n now before same-runs (rw (← is-progress, ← is-now, ← is-before) (stands c .shows q x))
 
   stays : (x : Key) → anyHolds (intervals (progress .parts)) x ≡ false → (n : ℕ) (q : Table → Bool) → shown q x (viewsOf n now) ≡ shown q x (viewsOf n before)
   stays x h n q = go (counts q x n)
@@ -214,7 +212,7 @@ module _ {first record′ : List ℕ} {steps : List Step} {before now : Image} {
       go (each r s a b c k e) = rw a (e ∙ rw k (expected-counts .source-inside progress q x n _ o d h))
 
   kept : (n : ℕ) → has n (progress .sources) ≡ false → bytesOf n now ≡ bytesOf n before
-  kept n h = go (found (otherBytes progress) (otherBytes progress) n now before (rest .runs) (rest .others))
+  kept n h = go (found (otherBytes progress) (otherBytes progress) n now before same-runs (rw (← is-progress, ← is-now, ← is-before) (stands c .others)))
     where
       go : Found (otherBytes progress) (otherBytes progress) n now before → bytesOf n now ≡ bytesOf n before
       go (neither a b) = rw (a, b)
@@ -248,15 +246,14 @@ other-runs-keep-their-bytes first steps record′ before now progress c v = kept
 
 pub as-if-alone : AsIfAlone
 as-if-alone first steps record′ before now progress c v ids room new e =
-    differ-in-drawn-bits (c .bytes) (taken c v .bytes) (v .before-is) (v .progress-is) (rest c v .alone ids room new e)
+    differ-in-drawn-bits (c .bytes) (taken c v .bytes) (v .before-is) (v .progress-is) (rw (← is-progress c v, ← is-before c v) (stands c .alone ids room new e))
 
 pub any-way-there : AnyWayThere
 any-way-there first steps others record′ before now progress c d v =
-    let s = stands d in
-    let x : s .before ≡ before = same-answer (s .before-is) (v .before-is) in
-    let z : s .progress ≡ progress = same-answer (s .progress-is) (v .progress-is) in
-    let f : Fits (imagePattern (commitRuns progress before)) (after first others) = rw (← x, ← z) (s .fits) in
-    differ-in-drawn-bits (c .bytes) (taken c v .bytes) (v .before-is) (v .progress-is) (alike (rest c v .fits) f)
+    let x : stands d .before ≡ before = same-answer (stands d .before-is) (v .before-is) in
+    let z : stands d .progress ≡ progress = same-answer (stands d .progress-is) (v .progress-is) in
+    let f : Fits (imagePattern (commitRuns progress before)) (after first others) = rw (← x, ← z) (stands d .fits) in
+    differ-in-drawn-bits (c .bytes) (taken c v .bytes) (v .before-is) (v .progress-is) (alike (pattern-fits c v) f)
 
 pub none-accepted-nothing-changes : NoneAcceptedNothingChanges
 unfolding Demand-3
