@@ -7,8 +7,8 @@ use lib.ListN.{length}
 use lib.Dec.{T}
 use Rattle.base.specs.Outcome.{stop, answer, andThen, over, lent, writtenTo, reported, stops-16, keeps, wrote, stands}
 use Rattle.base.specs.declared.Written.the-variants.{Wrote, Stop}
-use Rattle.comparable_range.specs.Range.{Range}
 use Rattle.format.specs.Whole.{whole}
+use Rattle.format.specs.declared.span.RangeSpan.{RangeSpan}
 use Rattle.records.specs.Found.{isGot, valuesOf}
 use Rattle.records.specs.Layouts.{image}
 use Rattle.records.specs.Spans.{ViewInside}
@@ -20,7 +20,6 @@ use Rattle.manifest.specs.Checks.{imageChecks}
 use Rattle.manifest.specs.Spans.{JudgedWhole, EffectiveFound}
 use Rattle.manifest.specs.declared.images.Judged.{Judged}
 use Rattle.manifest.specs.declared.images.Judged.the-variants.{At as JudgedAt, Stop as JudgedStop}
-use Rattle.manifest.specs.declared.ranges.RangeSpan.{RangeSpan}
 use Rattle.manifest.proofs.Given.{not-read, refused, accepted, image-there}
 use Rattle.db_state.specs.Places.{viewGiven}
 use Rattle.db_state.specs.Spans.{viewOutcome, ViewPlaced}

@@ -11,17 +11,19 @@ use Rattle.base.specs.Outcome.{Outcome, stop, answer}
 use Rattle.key.specs.Order.{Key}
 use Rattle.comparable_range.specs.Range.{nonEmpty, of, intersectSides, unionSides}
 use Rattle.comparable_range.specs.declared.Side.{Side}
-use Rattle.comparable_range.specs.declared.Side.the-variants.{First, Second}
 use Rattle.comparable_range.specs.declared.Sides.{Sides}
 use Rattle.comparable_range.specs.declared.Sides.the-variants.{Nothing as NoSides, From}
-use Rattle.format.specs.Range.{rangeIn, boundIn, BoundInside, RangeWhole}
+use Rattle.format.specs.Range.{rangeIn, BoundInside, RangeWhole}
+use Rattle.format.specs.Joint.{Joint}
+use Rattle.format.specs.Span.{SuppliedInside, suppliedBound, boundKey}
 use Rattle.format.specs.declared.range.BoundSpan.{BoundSpan}
 use Rattle.format.specs.declared.range.RangeRead.{RangeRead}
 use Rattle.format.specs.declared.range.RangeRead.the-variants.{At as RangeAt, Stop as RangeStop}
-use Rattle.bytes_range.specs.Writing.{SuppliedInside, suppliedBound, boundKey}
-use Rattle.bytes_range.specs.declared.span.Supplied.{Supplied}
-use Rattle.bilqarush.specs.Calls.{Pair, rangesGiven, Joint, joint, intersectOutcome, startKeyOf, endKeyOf, intersectStartKeyOutcome, intersectEndKeyOutcome, unionOutcome}
-use Rattle.bilqarush.specs.Answers.{BothFound, suppliedBy, joinedBy, jointOf, JointInside, JointFound, stopNumber, stopOf, keyOf, PartFound}
+use Rattle.format.specs.declared.span.RangeSpan.{RangeSpan}
+use Rattle.format.specs.declared.span.Supplied.{Supplied}
+use Rattle.format.proofs.Spans.{side-inside, side-bound}
+use Rattle.bilqarush.specs.Calls.{Pair, rangesGiven, joint, intersectOutcome, startKeyOf, endKeyOf, intersectStartKeyOutcome, intersectEndKeyOutcome, unionOutcome}
+use Rattle.bilqarush.specs.Answers.{BothFound, joinedBy, jointOf, JointInside, JointFound, stopNumber, stopOf, keyOf, PartFound}
 use Rattle.bilqarush.specs.declared.Both.{Both}
 use Rattle.bilqarush.specs.declared.Both.the-variants.{Ranges, Stop as BothStop}
 use Rattle.bilqarush.specs.declared.Joined.{Joined}
@@ -49,7 +51,7 @@ module _ {a b : List ℕ} {r q : RangeRead} (w : RangeWhole a r) (v : RangeWhole
       unfolding rangesGiven
       second-fails k = record { meaning = rw (range-is w x, range-is v y, ← h, z, ← g, k); inside = tt }
 
-      pub both-pass : j ≡ true → BothFound a b (Ranges s e t f)
+      pub both-pass : j ≡ true → BothFound a b (Ranges (record { start = s; end = e }) (record { start = t; end = f }))
       unfolding rangesGiven
       both-pass k =
           record {
@@ -59,70 +61,61 @@ module _ {a b : List ℕ} {r q : RangeRead} (w : RangeWhole a r) (v : RangeWhole
 
 pub ruleset pair-exits = (first-stops, second-stops, first-fails, second-fails, both-pass, start-inside, end-inside)
 
--- ---- supplied, joined
-module _ {side : Side} (x y : BoundSpan) where
-  pub from-first : side ≡ First → record { side = side; bound = x } ≡ suppliedBy side x y
-  from-first h = rw h
-
-  pub from-second : side ≡ Second → record { side = side; bound = y } ≡ suppliedBy side x y
-  from-second h = rw h
-
-module _ (s e t f : BoundSpan) {i : Sides} where
-  pub none-joined : i ≡ NoSides → Nothing ≡ joinedBy i s e t f
+-- ---- from_sides
+module _ (r q : RangeSpan) {i : Sides} where
+  pub none-joined : i ≡ NoSides → Nothing ≡ joinedBy i r q
   none-joined h = rw h
 
-  pub one-joined : {x y : Side} {u v : Supplied} → i ≡ From x y → u ≡ suppliedBy x s t → v ≡ suppliedBy y e f → Found u v ≡ joinedBy i s e t f
-  one-joined h p q = rw (h, p, q)
+  pub one-joined :
+      {x y : Side} {u v : BoundSpan}
+      → i ≡ From x y
+      → u ≡ of x (r .start) (q .start)
+      → v ≡ of y (r .end) (q .end)
+      → Found (record { side = x; bound = u }) (record { side = y; bound = v }) ≡ joinedBy i r q
+  one-joined h k l = rw (h, k, l)
 
-pub ruleset joined-exits = (from-first, from-second, none-joined, one-joined)
+pub ruleset joined-exits = (none-joined, one-joined)
 
 -- ---- a range joined from two that were given
-side-bound : (side : Side) (a b : List ℕ) (x y : BoundSpan) → boundIn (of side a b) (of side x y) ≡ of side (boundIn a x) (boundIn b y)
-side-bound First a b x y = refl
-side-bound Second a b x y = refl
-
-side-inside : (side : Side) (a b : List ℕ) (x y : BoundSpan) → BoundInside a x → BoundInside b y → BoundInside (of side a b) (of side x y)
-side-inside First a b x y h k = h
-side-inside Second a b x y h k = k
-
-module _ {a b : List ℕ} {r : Both} (w : BothFound a b r) {s e t f : BoundSpan} (q : r ≡ Ranges s e t f) where
+module _ {a b : List ℕ} {r : Both} (w : BothFound a b r) {x y : RangeSpan} (q : r ≡ Ranges x y) where
   abbrev pair : Pair
-  pair = record { first = rangeIn a s e; second = rangeIn b t f }
+  pair = record { first = rangeIn a (x .start) (x .end); second = rangeIn b (y .start) (y .end) }
 
   pub given-is : rangesGiven a b ≡ answer pair
   given-is = sym (w .meaning) ∙ rw q
 
-  places : BoundInside a s × (BoundInside a e × (BoundInside b t × BoundInside b f))
+  places : BoundInside a (x .start) × (BoundInside a (x .end) × (BoundInside b (y .start) × BoundInside b (y .end)))
   places = rw q at (w .inside)
 
-  pub in-1 : BoundInside a s
+  pub in-1 : BoundInside a (x .start)
   in-1 = places .0
 
-  pub in-2 : BoundInside a e
+  pub in-2 : BoundInside a (x .end)
   in-2 = places .1 .0
 
-  pub in-3 : BoundInside b t
+  pub in-3 : BoundInside b (y .start)
   in-3 = places .1 .1 .0
 
-  pub in-4 : BoundInside b f
+  pub in-4 : BoundInside b (y .end)
   in-4 = places .1 .1 .1
 
-  meant : (i : Sides) → jointOf a b (joinedBy i s e t f) ≡ answer (joint pair i)
+  meant : (i : Sides) → jointOf a b (joinedBy i x y) ≡ answer (joint pair i)
   meant NoSides = refl
-  meant (From x y) = rw (side-bound x a b s t, side-bound y a b e f)
+  meant (From s e) = rw (side-bound s a b (x .start) (y .start) refl refl refl, side-bound e a b (x .end) (y .end) refl refl refl)
 
-  within : (i : Sides) → JointInside a b (joinedBy i s e t f)
+  within : (i : Sides) → JointInside a b (joinedBy i x y)
   within NoSides = tt
-  within (From x y) = (side-inside x a b s t in-1 in-3, side-inside y a b e f in-2 in-4)
+  within (From s e) =
+      (side-inside s a b (x .start) (y .start) refl refl in-1 in-3, side-inside e a b (x .end) (y .end) refl refl in-2 in-4)
 
-  made : (i : Sides) {j : Joined} (g : Outcome (Option Joint)) → j ≡ joinedBy i s e t f → answer (joint pair i) ≡ g → JointFound a b g j
+  made : (i : Sides) {j : Joined} (g : Outcome (Option Joint)) → j ≡ joinedBy i x y → answer (joint pair i) ≡ g → JointFound a b g j
   made i g h k = rw h (record { meaning = meant i ∙ k; inside = within i })
 
-  pub intersection : {i : Sides} {j : Joined} → i ≡ intersectSides (rangeIn a s e) (rangeIn b t f) → j ≡ joinedBy i s e t f → JointFound a b (intersectOutcome a b) j
+  pub intersection : {i : Sides} {j : Joined} → i ≡ intersectSides (pair .first) (pair .second) → j ≡ joinedBy i x y → JointFound a b (intersectOutcome a b) j
   unfolding intersectOutcome
   intersection {i} h k = made i _ k (rw (given-is, h))
 
-  pub union-made : {i : Sides} {j : Joined} → i ≡ unionSides (rangeIn a s e) (rangeIn b t f) → j ≡ joinedBy i s e t f → JointFound a b (unionOutcome a b) j
+  pub union-made : {i : Sides} {j : Joined} → i ≡ unionSides (pair .first) (pair .second) → j ≡ joinedBy i x y → JointFound a b (unionOutcome a b) j
   unfolding unionOutcome
   union-made {i} h k = made i _ k (rw (given-is, h))
 

@@ -14,10 +14,12 @@ use Rattle.comparable_range.specs.declared.Side.{Side}
 use Rattle.comparable_range.specs.declared.Sides.{Sides}
 use Rattle.comparable_range.specs.declared.Sides.the-variants.{Nothing as NoSides, From}
 use Rattle.format.specs.Range.{rangeIn, BoundInside}
+use Rattle.format.specs.Joint.{Joint}
+use Rattle.format.specs.Span.{SuppliedInside, supplyIn}
 use Rattle.format.specs.declared.range.BoundSpan.{BoundSpan}
-use Rattle.bytes_range.specs.Writing.{SuppliedInside, suppliedBound, boundKey}
-use Rattle.bytes_range.specs.declared.span.Supplied.{Supplied}
-use Rattle.bilqarush.specs.Calls.{Supply, Joint, Pair, rangesGiven}
+use Rattle.format.specs.declared.span.RangeSpan.{RangeSpan}
+use Rattle.format.specs.declared.span.Supplied.{Supplied}
+use Rattle.bilqarush.specs.Calls.{Pair, rangesGiven}
 use Rattle.bilqarush.specs.declared.Given.{Given}
 use Rattle.bilqarush.specs.declared.Given.the-variants.{Bound as GivenBound, Stop as GivenStop}
 use Rattle.bilqarush.specs.declared.Both.{Both}
@@ -46,11 +48,13 @@ givenOf k (GivenBound j) = answer (boundOf j k)
 givenOf k (GivenStop n) = stop n
 
 abbrev pub bothOf : List ℕ → List ℕ → Both → Outcome Pair
-bothOf a b (Ranges s e t f) = answer (record { first = rangeIn a s e; second = rangeIn b t f })
+bothOf a b (Ranges r q) =
+    answer (record { first = rangeIn a (r .start) (r .end); second = rangeIn b (q .start) (q .end) })
 bothOf a b (BothStop n) = stop n
 
 abbrev pub BothInside : List ℕ → List ℕ → Both → Type 0
-BothInside a b (Ranges s e t f) = BoundInside a s × (BoundInside a e × (BoundInside b t × BoundInside b f))
+BothInside a b (Ranges r q) =
+    BoundInside a (r .start) × (BoundInside a (r .end) × (BoundInside b (q .start) × BoundInside b (q .end)))
 BothInside a b (BothStop n) = Unit
 
 pub record BothFound (a b : List ℕ) (r : Both) : Type 0 where
@@ -60,9 +64,9 @@ pub record BothFound (a b : List ℕ) (r : Both) : Type 0 where
 abbrev pub suppliedBy : Side → BoundSpan → BoundSpan → Supplied
 suppliedBy side x y = record { side = side; bound = of side x y }
 
-abbrev pub joinedBy : Sides → BoundSpan → BoundSpan → BoundSpan → BoundSpan → Joined
-joinedBy NoSides s e t f = Nothing
-joinedBy (From x y) s e t f = Range (suppliedBy x s t) (suppliedBy y e f)
+abbrev pub joinedBy : Sides → RangeSpan → RangeSpan → Joined
+joinedBy NoSides r q = Nothing
+joinedBy (From x y) r q = Range (suppliedBy x (r .start) (q .start)) (suppliedBy y (r .end) (q .end))
 
 -- ---- a point: its start is included, so its key stands behind the head byte and the 2 bytes of its length
 abbrev pub pointAt : Outcome (Option Key) → Point
@@ -71,11 +75,8 @@ pointAt (answer none) = NoPoint
 pointAt (answer (some k)) = At 3 (length k)
 
 -- ---- a range whose bounds are parts of the slices a and b
-abbrev pub supply : List ℕ → List ℕ → Supplied → Supply
-supply a b x = record { side = x .side; bound = suppliedBound a b x }
-
 abbrev pub jointOf : List ℕ → List ℕ → Joined → Outcome (Option Joint)
-jointOf a b (Range s e) = answer (some (record { start = supply a b s; end = supply a b e }))
+jointOf a b (Range s e) = answer (some (record { start = supplyIn a b s; end = supplyIn a b e }))
 jointOf a b Nothing = answer none
 jointOf a b (Stop n) = stop n
 

@@ -9,13 +9,14 @@ use lib.Dec.{leb}
 use Rattle.base.specs.Outcome.{Outcome, stop, answer, andThen, check, writtenTo}
 use Rattle.key.specs.Order.{Key, cmpKey, sign}
 use Rattle.comparable_range.specs.Range.{Bound, unbounded, included, excluded, Range, cmpBound, nonEmpty, holds, of, intersectSides, unionSides}
-use Rattle.comparable_range.specs.declared.Side.{Side}
 use Rattle.comparable_range.specs.declared.Sides.{Sides}
 use Rattle.comparable_range.specs.declared.Sides.the-variants.{Nothing, From}
 use Rattle.format.specs.Range.{readRange, writeRange}
 use Rattle.format.specs.Whole.{whole, keyGiven}
+use Rattle.format.specs.Joint.{Joint}
+use Rattle.format.specs.Span.{boundKey}
 use Rattle.bytes_range.specs.Prefix.{fromPrefix, asPoint}
-use Rattle.bytes_range.specs.Writing.{boundKey, joinedTo}
+use Rattle.bytes_range.specs.Writing.{joinedTo}
 
 -- ---- what is given
 -- a range that passes `non_empty`
@@ -61,15 +62,7 @@ containsOutcome l key =
 unfoldable pub asPointOutcome : List ℕ → Outcome (Option Key)
 asPointOutcome l = andThen (rangeGiven l) (λ r. answer (asPoint r))
 
--- a bound, and which of the two given ranges supplied it
-pub record Supply : Type 0 where
-  pub side : Side
-  pub bound : Bound
-
-pub record Joint : Type 0 where
-  pub start : Supply
-  pub end : Supply
-
+-- the range whose bounds the sides supply, each with the side of the given range that it comes from
 abbrev pub joint : Pair → Sides → Option Joint
 joint p Nothing = none
 joint p (From s e) =

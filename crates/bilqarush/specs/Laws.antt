@@ -2,7 +2,7 @@
 use Prim.Native.Nat.{ℕ, zero, suc, _+_, _≤_}
 use mathlib.Core.Path.{_≡_}
 use mathlib.Core.Bool.{true}
-use mathlib.Core.Option.{Option, none, some}
+use mathlib.Core.Option.{Option, some, Option·map}
 use mathlib.Core.List.{List, [], _∷_}
 use lib.ListN.{length, take, drop}
 use Rattle.base.specs.Bytes.{Bytes}
@@ -12,14 +12,14 @@ use Rattle.key.specs.Order.{Key}
 use Rattle.comparable_range.specs.Range.{Range, intersectSides, unionSides, intersect, union}
 use Rattle.format.specs.Range.{readRange, writeRange}
 use Rattle.format.specs.Whole.{whole}
+use Rattle.format.specs.Joint.{Joint, range}
 use Rattle.bytes_range.specs.Prefix.{fromPrefix, fromPrefixAndSubrange}
 use Rattle.bytes_range.specs.Writing.{rangeJoins}
-use Rattle.bilqarush.specs.Calls.{asPointOutcome, Pair, Joint, joint, fromPrefixOutcome, fromPrefixAndSubrangeOutcome}
+use Rattle.bilqarush.specs.Calls.{asPointOutcome, Pair, joint, fromPrefixOutcome, fromPrefixAndSubrangeOutcome}
 
 -- an answered range without its suppliers
 abbrev pub bare : Option Joint → Option Range
-bare none = none
-bare (some j) = some (record { start = j .start .bound; end = j .end .bound })
+bare o = Option·map range o
 
 -- what `intersect` answers is the intersection, and what `union` answers the union
 abbrev pub IntersectAnswersTheIntersection : Type 0

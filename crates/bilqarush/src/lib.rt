@@ -5,13 +5,13 @@ mod commits;
 mod images;
 
 use base::Written;
-use bytes_range::span::Supplied;
 pub use commits::commit;
 use comparable_range::Kind;
-use comparable_range::Side;
 use comparable_range::Sides;
-use format::BoundSpan;
 use format::RangeRead;
+use format::span;
+use format::span::RangeSpan;
+use format::span::Supplied;
 pub use images::Checked;
 pub use images::ViewRange;
 pub use images::check_image;
@@ -21,7 +21,7 @@ ghost use mathlib.Core.Path.{_≡_};
 ghost use lib.ListN.{length};
 ghost use Rattle.base.specs.Outcome.{reported, lent};
 ghost use Rattle.bilqarush.specs.Calls.{boundGiven, compareOutcome, cmpBoundOutcome, nonEmptyOutcome, containsOutcome, asPointOutcome, intersectOutcome, startKeyOf, endKeyOf, intersectStartKeyOutcome, intersectEndKeyOutcome, unionOutcome, fromPrefixOutcome, fromPrefixAndSubrangeOutcome};
-ghost use Rattle.bilqarush.specs.Answers.{givenOf, orderOf, testOf, BothFound, suppliedBy, joinedBy, pointAt, jointOf, JointInside, JointFound, stopNumber, keyOf, PartFound};
+ghost use Rattle.bilqarush.specs.Answers.{givenOf, orderOf, testOf, BothFound, joinedBy, pointAt, jointOf, JointInside, JointFound, stopNumber, keyOf, PartFound};
 
 // A comparison's answer: -1, 0 or 1, or the number of a stop.
 pub enum Compared {
@@ -126,7 +126,7 @@ pub fn non_empty(range: &[u8]) -> Tested
             start,
             end,
             next: _,
-        } => Tested::Is(format::passes(range, start, end)),
+        } => Tested::Is(span::passes(range, start, range, end)),
     }
 }
 
@@ -144,8 +144,8 @@ pub fn contains(range: &[u8], key: &[u8]) -> Tested
             if 1024 < key.len() {
                 return Tested::Stop(3);
             }
-            if format::passes(range, start, end) {
-                return Tested::Is(bytes_range::span::contains(range, start, end, key));
+            if span::passes(range, start, range, end) {
+                return Tested::Is(span::holds(range, RangeSpan { start, end }, key));
             }
             Tested::Stop(4)
         }
@@ -166,7 +166,7 @@ pub fn as_point(range: &[u8]) -> Point
             end,
             next: _,
         } => {
-            if format::passes(range, start, end) {
+            if span::passes(range, start, range, end) {
                 if bytes_range::span::is_point(range, start, end) {
                     return Point::At(START_KEY, start.len);
                 }
@@ -177,9 +177,9 @@ pub fn as_point(range: &[u8]) -> Point
     }
 }
 
-// Two ranges: the start and the end of the first, then of the second.
+// Two ranges, each in its slice.
 pub enum Both {
-    Ranges(BoundSpan, BoundSpan, BoundSpan, BoundSpan),
+    Ranges(RangeSpan, RangeSpan),
     Stop(u8),
 }
 
@@ -199,9 +199,12 @@ fn ranges_given(a: &[u8], b: &[u8]) -> Both
                 end: f,
                 next: _,
             } => {
-                if format::passes(a, s, e) {
-                    if format::passes(b, t, f) {
-                        return Both::Ranges(s, e, t, f);
+                if span::passes(a, s, a, e) {
+                    if span::passes(b, t, b, f) {
+                        return Both::Ranges(
+                            RangeSpan { start: s, end: e },
+                            RangeSpan { start: t, end: f },
+                        );
                     }
                     return Both::Stop(4);
                 }
@@ -211,23 +214,22 @@ fn ranges_given(a: &[u8], b: &[u8]) -> Both
     }
 }
 
-// The bound of a side.
-fn supplied(side: Side, a: BoundSpan, b: BoundSpan) -> Supplied
-    ensures { λ r. ⌜ r ≡ suppliedBy side a b ⌝ }
-{
-    match side {
-        Side::First => Supplied { side, bound: a },
-        Side::Second => Supplied { side, bound: b },
-    }
-}
-
 // The range whose bounds the sides supply.
-fn from_sides(sides: Sides, s: BoundSpan, e: BoundSpan, t: BoundSpan, f: BoundSpan) -> Joined
-    ensures { λ r. ⌜ r ≡ joinedBy sides s e t f ⌝ }
+fn from_sides(sides: Sides, r: RangeSpan, q: RangeSpan) -> Joined
+    ensures { λ j. ⌜ j ≡ joinedBy sides r q ⌝ }
 {
     match sides {
         Sides::Nothing => Joined::Nothing,
-        Sides::From(x, y) => Joined::Range(supplied(x, s, t), supplied(y, e, f)),
+        Sides::From(x, y) => Joined::Range(
+            Supplied {
+                side: x,
+                bound: span::bound_of(x, r.start, q.start),
+            },
+            Supplied {
+                side: y,
+                bound: span::bound_of(y, r.end, q.end),
+            },
+        ),
     }
 }
 
@@ -237,13 +239,7 @@ pub fn intersect<'a>(a: &'a [u8], b: &'a [u8]) -> Joined
 {
     match ranges_given(a, b) {
         Both::Stop(n) => Joined::Stop(n),
-        Both::Ranges(s, e, t, f) => from_sides(
-            bytes_range::span::intersect(a, s, e, b, t, f),
-            s,
-            e,
-            t,
-            f,
-        ),
+        Both::Ranges(r, q) => from_sides(span::intersect(a, r, b, q), r, q),
     }
 }
 
@@ -266,7 +262,7 @@ fn start_part<'a>(a: &'a [u8], b: &'a [u8], joined: Joined) -> &'a [u8]
     match joined {
         Joined::Stop(_) => &a[..0],
         Joined::Nothing => &a[..0],
-        Joined::Range(start, _) => bytes_range::span::supplied_key(a, b, start),
+        Joined::Range(start, _) => span::supplied_key(a, b, start),
     }
 }
 
@@ -278,7 +274,7 @@ fn end_part<'a>(a: &'a [u8], b: &'a [u8], joined: Joined) -> &'a [u8]
     match joined {
         Joined::Stop(_) => &a[..0],
         Joined::Nothing => &a[..0],
-        Joined::Range(_, end) => bytes_range::span::supplied_key(a, b, end),
+        Joined::Range(_, end) => span::supplied_key(a, b, end),
     }
 }
 
@@ -315,13 +311,7 @@ pub fn union<'a>(a: &'a [u8], b: &'a [u8]) -> Joined
 {
     match ranges_given(a, b) {
         Both::Stop(n) => Joined::Stop(n),
-        Both::Ranges(s, e, t, f) => from_sides(
-            bytes_range::span::union(a, s, e, b, t, f),
-            s,
-            e,
-            t,
-            f,
-        ),
+        Both::Ranges(r, q) => from_sides(span::union(a, r, b, q), r, q),
     }
 }
 

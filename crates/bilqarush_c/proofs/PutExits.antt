@@ -14,8 +14,8 @@ use Rattle.format.specs.Number.{writeNumber}
 use Rattle.format.specs.Range.{kindNumber}
 use Rattle.format.specs.declared.range.BoundSpan.{BoundSpan}
 use Rattle.format.proofs.Layouts.{number-length}
-use Rattle.bytes_range.specs.Writing.{SuppliedInside, suppliedBound, boundKey}
-use Rattle.bytes_range.specs.declared.span.Supplied.{Supplied}
+use Rattle.format.specs.Span.{SuppliedInside, suppliedBound, boundKey}
+use Rattle.format.specs.declared.span.Supplied.{Supplied}
 use Rattle.bytes_range.proofs.RangePut.{at-front}
 use Rattle.bilqarush.specs.Calls.{startKeyOf, endKeyOf}
 use Rattle.bilqarush.specs.Answers.{jointOf, JointInside}

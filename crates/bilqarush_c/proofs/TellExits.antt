@@ -8,7 +8,8 @@ use lib.IntN.{ℤ}
 use lib.ListN.{length}
 use Rattle.base.specs.Outcome.{Outcome, stop, answer, lent, reported}
 use Rattle.base.specs.declared.Written.{Written}
-use Rattle.bilqarush.specs.Calls.{asPointOutcome, Joint, intersectOutcome, startKeyOf, endKeyOf, intersectStartKeyOutcome, intersectEndKeyOutcome}
+use Rattle.format.specs.Joint.{Joint}
+use Rattle.bilqarush.specs.Calls.{asPointOutcome, intersectOutcome, startKeyOf, endKeyOf, intersectStartKeyOutcome, intersectEndKeyOutcome}
 use Rattle.bilqarush.specs.Answers.{stopOf, orderOf, pointAt, jointOf, JointInside, JointFound}
 use Rattle.bilqarush.specs.ImageCalls.{checkedAnswer, compactedEffectiveRangeOutcome, ViewRangeFound}
 use Rattle.bilqarush.specs.declared.Compared.{Compared}

@@ -11,8 +11,8 @@ use Rattle.comparable_range.specs.declared.Side.the-variants.{First, Second}
 use Rattle.format.specs.Number.{writeNumber}
 use Rattle.format.specs.Range.{kindNumber}
 use Rattle.format.specs.declared.range.BoundSpan.{BoundSpan}
-use Rattle.bytes_range.specs.declared.span.Supplied.{Supplied}
-use Rattle.bilqarush.specs.Calls.{Joint}
+use Rattle.format.specs.declared.span.Supplied.{Supplied}
+use Rattle.format.specs.Joint.{Joint}
 use Rattle.bilqarush.specs.Answers.{JointFound}
 use Rattle.bilqarush.specs.ImageCalls.{compactedEffectiveRangeOutcome, ViewRangeFound}
 use Rattle.bilqarush.specs.declared.Point.{Point}

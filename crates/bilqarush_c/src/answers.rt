@@ -3,10 +3,11 @@ use base::Written;
 use bilqarush::Joined;
 use bilqarush::Point;
 use bilqarush::ViewRange;
-use bytes_range::span::Supplied;
 use comparable_range::Kind;
 use comparable_range::Side;
 use format::BoundSpan;
+use format::span;
+use format::span::Supplied;
 ghost use mathlib.Core.Path.{_≡_};
 ghost use Prim.Native.Nat.{_≤_, _+_};
 ghost use lib.ListN.{length};
@@ -156,7 +157,7 @@ pub fn put_start_key<'a>(a: &'a [u8], b: &'a [u8], joined: Joined, out: &mut [u8
     match joined {
         Joined::Stop(n) => Written::Stop(n),
         Joined::Nothing => Written::Wrote(0),
-        Joined::Range(start, _) => put_key(bytes_range::span::supplied_key(a, b, start), out),
+        Joined::Range(start, _) => put_key(span::supplied_key(a, b, start), out),
     }
 }
 
@@ -169,6 +170,6 @@ pub fn put_end_key<'a>(a: &'a [u8], b: &'a [u8], joined: Joined, out: &mut [u8])
     match joined {
         Joined::Stop(n) => Written::Stop(n),
         Joined::Nothing => Written::Wrote(0),
-        Joined::Range(_, end) => put_key(bytes_range::span::supplied_key(a, b, end), out),
+        Joined::Range(_, end) => put_key(span::supplied_key(a, b, end), out),
     }
 }

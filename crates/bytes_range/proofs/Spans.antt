@@ -1,75 +1,30 @@
 -- A range that stands in a slice is read through its parts: what a function says of the parts it says of the range.
 -- Assumes nothing.
 use Prim.Native.Nat.{ℕ}
-use mathlib.Core.Path.{_≡_, refl, sym, _∙_, ap}
+use mathlib.Core.Path.{_≡_, sym, _∙_, ap}
 use mathlib.Core.Bool.{Bool, true, false, _&&_}
-use mathlib.Core.List.{List, []}
+use mathlib.Core.List.{List}
 use lib.ListN.{length, take, drop}
 use Rattle.key.specs.Order.{Key}
-use Rattle.comparable_range.specs.Range.{Range, boundOf, rangeOf, of, nonEmpty, holds, intersectSides, unionSides}
-use Rattle.comparable_range.specs.Factors.{isKeyed}
+use Rattle.comparable_range.specs.Range.{Range, boundOf, rangeOf, nonEmpty}
 use Rattle.comparable_range.specs.declared.Kind.{Kind}
-use Rattle.comparable_range.specs.declared.Kind.the-variants.{Unbounded, Included, Excluded}
 use Rattle.base.specs.Pick.{and-first, and-second}
 use Rattle.base.specs.Outcome.{stop, reported, lent, writtenTo}
 use Rattle.base.specs.declared.Written.{Written}
 use Rattle.base.specs.declared.Written.the-variants.{Stop}
-use Rattle.comparable_range.specs.declared.Side.the-variants.{First, Second}
-use Rattle.comparable_range.specs.declared.Sides.{Sides}
-use Rattle.format.specs.Range.{rangeIn, BoundInside, writeRange}
+use Rattle.format.specs.Range.{rangeIn, writeRange}
 use Rattle.format.specs.declared.range.BoundSpan.{BoundSpan}
 use Rattle.bytes_range.specs.Prefix.{asPoint, fromPrefixAndSubrange}
 use Rattle.bytes_range.specs.Laws.{leavesNone}
-use Rattle.bytes_range.specs.Writing.{pointIf, SuppliedInside, suppliedBound, boundKey, joinsWithin, rangeJoins, joinedTo}
+use Rattle.bytes_range.specs.Writing.{pointIf, joinsWithin, rangeJoins, joinedTo}
 use Rattle.bytes_range.proofs.PrefixLaws.{joined-passes-as-given}
-use Rattle.bytes_range.specs.declared.span.Supplied.{Supplied}
 
 abbrev part : List ℕ → BoundSpan → Key
 part s b = take (b .len) (drop (b .at) s)
 
 module _ (l : List ℕ) (s e : BoundSpan) {x y : Key} (p : x ≡ part l s) (q : y ≡ part l e) where
-  pub held-in : (key : Key) {r : Bool} → r ≡ holds (rangeOf (s .kind) x (e .kind) y) key → r ≡ holds (rangeIn l s e) key
-  held-in key h = h ∙ rw (p, q)
-
   pub point-in : (r : Bool) → pointIf r x ≡ asPoint (rangeOf (s .kind) x (e .kind) y) → pointIf r (part l s) ≡ asPoint (rangeIn l s e)
   point-in r h = rw (p, q) at h
-
-  module _ (m : List ℕ) (t f : BoundSpan) {u v : Key} (g : u ≡ part m t) (d : v ≡ part m f) {r : Sides} where
-    pub meeting-in : r ≡ intersectSides (rangeOf (s .kind) x (e .kind) y) (rangeOf (t .kind) u (f .kind) v) → r ≡ intersectSides (rangeIn l s e) (rangeIn m t f)
-    meeting-in h = h ∙ rw (p, q, g, d)
-
-    pub union-in : r ≡ unionSides (rangeOf (s .kind) x (e .kind) y) (rangeOf (t .kind) u (f .kind) v) → r ≡ unionSides (rangeIn l s e) (rangeIn m t f)
-    union-in h = h ∙ rw (p, q, g, d)
-
--- ---- supplied_key
-key-back : (k : Kind) (x : Key) → isKeyed k ≡ true → boundKey (boundOf k x) ≡ x
-key-back Unbounded x h = absurd (mathlib.Core.Bool.true≢false (sym h))
-key-back Included x h = refl
-key-back Excluded x h = refl
-
-no-key-back : (k : Kind) (x : Key) → isKeyed k ≡ false → boundKey (boundOf k x) ≡ []
-no-key-back Unbounded x h = refl
-no-key-back Included x h = absurd (mathlib.Core.Bool.true≢false h)
-no-key-back Excluded x h = absurd (mathlib.Core.Bool.true≢false h)
-
-module _ (a b : List ℕ) (x : Supplied) where
-  pub first-inside : x .side ≡ First → SuppliedInside a b x → BoundInside a (x .bound)
-  first-inside h i = rw h at i
-
-  pub second-inside : x .side ≡ Second → SuppliedInside a b x → BoundInside b (x .bound)
-  second-inside h i = rw h at i
-
-  module _ {t : Bool} (e : t ≡ isKeyed (x .bound .kind)) where
-    pub first-key : {k : Key} → t ≡ true → x .side ≡ First → k ≡ part a (x .bound) → k ≡ boundKey (suppliedBound a b x)
-    first-key w h q = q ∙ sym (rw h (key-back (x .bound .kind) (part a (x .bound)) (sym e ∙ w)))
-
-    pub second-key : {k : Key} → t ≡ true → x .side ≡ Second → k ≡ part b (x .bound) → k ≡ boundKey (suppliedBound a b x)
-    second-key w h q = q ∙ sym (rw h (key-back (x .bound .kind) (part b (x .bound)) (sym e ∙ w)))
-
-    pub no-key : t ≡ false → take 0 a ≡ boundKey (suppliedBound a b x)
-    no-key w = sym (no-key-back (x .bound .kind) (part (of (x .side) a b) (x .bound)) (sym e ∙ w))
-
-pub ruleset supply-exits = (first-inside, second-inside, first-key, second-key, no-key)
 
 -- ---- join
 module _ (p : Key) (r : Range) where
@@ -140,4 +95,4 @@ module _ (p : Key) (ks ke : Kind) (s e : Key) {t : Bool} (ht : t ≡ rangeJoins 
 
 pub ruleset join-calls = (stops-3, keeps-3, stops-4, keeps-4, join-reports, join-stands, start-joins, end-joins)
 
-pub ruleset span-exits = (held-in, point-in, meeting-in, union-in)
+pub ruleset span-exits = (point-in)

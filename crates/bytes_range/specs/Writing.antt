@@ -6,13 +6,12 @@ use mathlib.Core.List.{List, [], _∷_}
 use lib.ListN.{length}
 use lib.Dec.{eqb, leb}
 use Rattle.key.specs.Order.{Key}
-use Rattle.comparable_range.specs.Range.{Bound, unbounded, included, excluded, Range, of, nonEmpty}
+use Rattle.comparable_range.specs.Range.{Bound, unbounded, included, excluded, Range, nonEmpty}
 use Rattle.comparable_range.specs.declared.Kind.{Kind}
 use Rattle.comparable_range.specs.declared.Kind.the-variants.{Unbounded, Included, Excluded}
-use Rattle.format.specs.Range.{BoundInside, boundIn, writeRange}
+use Rattle.format.specs.Range.{writeRange}
 use Rattle.base.specs.Outcome.{Outcome, check, writtenTo}
 use Rattle.bytes_range.specs.Prefix.{keptOf, fromPrefixAndSubrange}
-use Rattle.bytes_range.specs.declared.span.Supplied.{Supplied}
 
 -- every byte is FF
 unfoldable pub allFF : List ℕ → Bool
@@ -38,19 +37,6 @@ rangeJoins p r = joinsWithin p (r .start) && joinsWithin p (r .end)
 abbrev pub pointIf : Bool → Key → Option Key
 pointIf true k = some k
 pointIf false k = none
-
--- ---- bounds that stand in one of two slices
-abbrev pub SuppliedInside : List ℕ → List ℕ → Supplied → Type 0
-SuppliedInside a b x = BoundInside (of (x .side) a b) (x .bound)
-
-abbrev pub suppliedBound : List ℕ → List ℕ → Supplied → Bound
-suppliedBound a b x = boundIn (of (x .side) a b) (x .bound)
-
--- the key of a bound, empty where it has none
-abbrev pub boundKey : Bound → Key
-boundKey unbounded = []
-boundKey (included k) = k
-boundKey (excluded k) = k
 
 -- ---- a prefix and a subrange, written into a buffer of `room` bytes
 -- Stop 3 if they join to over 1,024 bytes; stop 4 if the given or the joined range fails `non_empty`.

@@ -1,34 +1,16 @@
-// Ranges that stand in a slice: two bounds, each a kind and the place of its key.
+// Ranges that stand in a slice: points, and subranges that follow a prefix.
 use base::Written;
 use comparable_range::Kind;
-use comparable_range::Side;
-use comparable_range::Sides;
 use format::BoundSpan;
 ghost use mathlib.Core.Path.{_≡_};
 ghost use lib.ListN.{length, take, drop};
 ghost use mathlib.Core.Bool.{_&&_};
 ghost use Prim.Native.Nat.{_≤_};
 ghost use Rattle.base.specs.Outcome.{reported, lent};
-ghost use Rattle.comparable_range.specs.Range.{rangeOf, nonEmpty, holds, intersectSides, unionSides};
+ghost use Rattle.comparable_range.specs.Range.{rangeOf, nonEmpty};
 ghost use Rattle.format.specs.Range.{BoundInside, rangeIn};
 ghost use Rattle.bytes_range.specs.Prefix.{asPoint, fromPrefixAndSubrange};
-ghost use Rattle.bytes_range.specs.Writing.{pointIf, SuppliedInside, suppliedBound, boundKey, rangeJoins, joinedTo};
-
-// Whether a range holds a key.
-pub fn contains(s: &[u8], start: BoundSpan, end: BoundSpan, key: &[u8]) -> bool
-    requires { ⌜ BoundInside (now s) start ⌝ ∗ ⌜ BoundInside (now s) end ⌝ }
-    ensures { λ r. ⌜ r ≡ holds (rangeIn (now (s .entry)) start end) (now (key .entry)) ⌝ }
-{
-    let ks = start.kind;
-    let ke = end.kind;
-    comparable_range::contains(
-        ks,
-        format::key_of(s, start),
-        ke,
-        format::key_of(s, end),
-        key,
-    )
-}
+ghost use Rattle.bytes_range.specs.Writing.{pointIf, rangeJoins, joinedTo};
 
 // Whether a range is one point, which is then its start's key.
 pub fn is_point(s: &[u8], start: BoundSpan, end: BoundSpan) -> bool
@@ -38,89 +20,6 @@ pub fn is_point(s: &[u8], start: BoundSpan, end: BoundSpan) -> bool
     let ks = start.kind;
     let ke = end.kind;
     crate::as_point(ks, format::key_of(s, start), ke, format::key_of(s, end))
-}
-
-// Which of two ranges supplies the start of their intersection, and which the end.
-pub fn intersect<'a>(
-    a: &'a [u8],
-    s: BoundSpan,
-    e: BoundSpan,
-    b: &'a [u8],
-    t: BoundSpan,
-    f: BoundSpan,
-) -> Sides
-    requires { ⌜ BoundInside (now a) s ⌝ ∗ ⌜ BoundInside (now a) e ⌝ ∗ ⌜ BoundInside (now b) t ⌝ ∗ ⌜ BoundInside (now b) f ⌝ }
-    ensures { λ r. ⌜ r ≡ intersectSides (rangeIn (now (a .entry)) s e) (rangeIn (now (b .entry)) t f) ⌝ }
-{
-    let ks = s.kind;
-    let ke = e.kind;
-    let js = t.kind;
-    let je = f.kind;
-    comparable_range::intersect(
-        ks,
-        format::key_of(a, s),
-        ke,
-        format::key_of(a, e),
-        js,
-        format::key_of(b, t),
-        je,
-        format::key_of(b, f),
-    )
-}
-
-// The same of their union.
-pub fn union<'a>(
-    a: &'a [u8],
-    s: BoundSpan,
-    e: BoundSpan,
-    b: &'a [u8],
-    t: BoundSpan,
-    f: BoundSpan,
-) -> Sides
-    requires { ⌜ BoundInside (now a) s ⌝ ∗ ⌜ BoundInside (now a) e ⌝ ∗ ⌜ BoundInside (now b) t ⌝ ∗ ⌜ BoundInside (now b) f ⌝ }
-    ensures { λ r. ⌜ r ≡ unionSides (rangeIn (now (a .entry)) s e) (rangeIn (now (b .entry)) t f) ⌝ }
-{
-    let ks = s.kind;
-    let ke = e.kind;
-    let js = t.kind;
-    let je = f.kind;
-    comparable_range::union(
-        ks,
-        format::key_of(a, s),
-        ke,
-        format::key_of(a, e),
-        js,
-        format::key_of(b, t),
-        je,
-        format::key_of(b, f),
-    )
-}
-
-// A bound, and which of two slices it stands in.
-pub struct Supplied {
-    pub side: Side,
-    pub bound: BoundSpan,
-}
-
-// Its key, as a part of that slice; an empty part if it has none.
-pub fn supplied_key<'a>(a: &'a [u8], b: &'a [u8], x: Supplied) -> &'a [u8]
-    requires { ⌜ SuppliedInside (now a) (now b) x ⌝ }
-    ensures { λ r. ⌜ now r ≡ boundKey (suppliedBound (now (a .entry)) (now (b .entry)) x) ⌝ }
-{
-    let side = x.side;
-    let bound = x.bound;
-    let kind = bound.kind;
-    if comparable_range::keyed(kind) {
-        match side {
-            Side::First => {
-                return format::key_of(a, bound);
-            }
-            Side::Second => {
-                return format::key_of(b, bound);
-            }
-        }
-    }
-    &a[..0]
 }
 
 // Whether both keys of a subrange follow a prefix within 1,024 bytes.

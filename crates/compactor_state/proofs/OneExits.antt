@@ -23,18 +23,6 @@ use Rattle.compactor_state.specs.Faults.{plannedAfter, outputBetween}
 use Rattle.compactor_state.specs.Spans.{halfOpen, cutOf}
 use Rattle.compactor_state.proofs.Steps.{starts-by-cuts, ends-by-cuts, after-by-cuts}
 
--- ---- in_order
-pub in-order-is :
-    (s : List ℕ) (a b : BoundSpan) (start : Bool) {x y : List ℕ} {o : Order} {t : Bool}
-    → x ≡ take (a .len) (drop (a .at) s)
-    → y ≡ take (b .len) (drop (b .at) s)
-    → o ≡ cmpBound start (boundOf (a .kind) x) (boundOf (b .kind) y)
-    → t ≡ atMost o
-    → t ≡ atMost (cmpBound start (boundIn s a) (boundIn s b))
-in-order-is s a b start p q h w = w ∙ rw (h, p, q)
-
-pub ruleset order-exits = (in-order-is)
-
 -- ---- output_between
 -- a table ends by a cut if its last bound, as an end, stands there or before, and is a key
 ends-by : (f : Bool) (k : Key) (e : Cut) → endsBy e (ifSo f k) ≡ (cutAtMost (endCut (boundOf (lastKind f) k)) e && f)
@@ -48,19 +36,19 @@ module _ (s : List ℕ) (i j : BoundSpan) (t : TableSpan) where
   pub last-in : {l : BoundSpan} → l ≡ lastSpan t → TableInside s t → BoundInside s l
   last-in e p = rw e (p .last)
 
-  module _ {a : Bool} (h : a ≡ atMost (cmpBound true (boundIn s i) (boundIn s (firstSpan t)))) where
+  module _ {o : Order} {a : Bool} (g : o ≡ cmpBound true (boundIn s i) (boundIn s (firstSpan t))) (h : a ≡ atMost o) where
     begins : cutAtMost (startCut (boundIn s i)) (before (tableIn s t .first)) ≡ a
-    begins = sym (h ∙ starts-by-cuts (boundIn s i) (boundIn s (firstSpan t)))
+    begins = sym (h ∙ ap atMost g ∙ starts-by-cuts (boundIn s i) (boundIn s (firstSpan t)))
 
     pub too-early : a ≡ false → false ≡ outputBetween (endCut (boundIn s j)) (startCut (boundIn s i)) (tableIn s t)
     unfolding outputBetween
     too-early z = rw (begins, z)
 
-    module _ (z : a ≡ true) {l : BoundSpan} {b : Bool} (q : l ≡ lastSpan t) (k : b ≡ atMost (cmpBound false (boundIn s l) (boundIn s j))) where
+    module _ (z : a ≡ true) {l : BoundSpan} {u : Order} {b : Bool} (q : l ≡ lastSpan t) (w : u ≡ cmpBound false (boundIn s l) (boundIn s j)) (k : b ≡ atMost u) where
       ends : endsBy (endCut (boundIn s j)) (tableIn s t .last) ≡ (b && t .flagged)
       ends =
           ends-by (t .flagged) (take (t .«last_len») (drop (t .«last_at») s)) (endCut (boundIn s j))
-          ∙ sym (ap (λ x. x && t .flagged) (k ∙ ends-by-cuts (boundIn s l) (boundIn s j) ∙ ap (λ m. cutAtMost (endCut (boundIn s m)) (endCut (boundIn s j))) q))
+          ∙ sym (ap (λ x. x && t .flagged) (k ∙ ap atMost w ∙ ends-by-cuts (boundIn s l) (boundIn s j) ∙ ap (λ m. cutAtMost (endCut (boundIn s m)) (endCut (boundIn s j))) q))
 
       pub too-late : b ≡ false → false ≡ outputBetween (endCut (boundIn s j)) (startCut (boundIn s i)) (tableIn s t)
       unfolding outputBetween

@@ -1,7 +1,8 @@
 // Checks 10 and 11: the planned ranges of a job's parts, and their outputs.
 use comparable_range::Kind;
 use format::BoundSpan;
-use manifest::RangeSpan;
+use format::span;
+use format::span::RangeSpan;
 use records::PartRead;
 use records::TableRead;
 use records::TableSpan;
@@ -10,8 +11,6 @@ ghost use mathlib.Core.Bool.{_&&_};
 ghost use Prim.Native.Nat.{_≤_};
 ghost use lib.Dec.{T};
 ghost use lib.ListN.{length, drop};
-ghost use Rattle.key.specs.Order.{atMost};
-ghost use Rattle.comparable_range.specs.Range.{cmpBound};
 ghost use Rattle.comparable_range.specs.Cut.{startCut, endCut};
 ghost use Rattle.format.specs.Range.{BoundInside, boundIn, rangeIn};
 ghost use Rattle.records.specs.Form.{readMany};
@@ -29,22 +28,6 @@ fn both(a: bool, b: bool) -> bool
         return b;
     }
     false
-}
-
-// Whether two bounds, both starts or both ends, do not descend.
-fn in_order(s: &[u8], a: BoundSpan, b: BoundSpan, start: bool) -> bool
-    requires { ⌜ BoundInside (now s) a ⌝ ∗ ⌜ BoundInside (now s) b ⌝ }
-    ensures { λ r. ⌜ r ≡ atMost (cmpBound start (boundIn (now (s .entry)) a) (boundIn (now (s .entry)) b)) ⌝ }
-{
-    let ka = a.kind;
-    let kb = b.kind;
-    key::at_most(comparable_range::cmp_bound(
-        ka,
-        format::key_of(s, a),
-        kb,
-        format::key_of(s, b),
-        start,
-    ))
 }
 
 // A table's last key, included; unbounded if it has none.
@@ -75,8 +58,8 @@ fn output_between(s: &[u8], start: BoundSpan, end: BoundSpan, t: TableSpan) -> b
         at: t.first_at,
         len: t.first_len,
     };
-    if in_order(s, start, first, true) {
-        if in_order(s, last_bound(t), end, false) {
+    if key::at_most(span::compare(s, start, s, first, true)) {
+        if key::at_most(span::compare(s, last_bound(t), s, end, false)) {
             return t.flagged;
         }
     }
@@ -147,7 +130,7 @@ fn planned_after(s: &[u8], first: bool, before: BoundSpan, start: BoundSpan, end
         if first {
             return true;
         }
-        return !format::passes(s, start, before);
+        return !span::passes(s, start, s, before);
     }
     false
 }

@@ -4,3 +4,5 @@ pub mod Ranges
 pub mod Layouts
 pub mod Puts
 pub mod RangeLayouts
+pub mod Spans
+pub mod Joints

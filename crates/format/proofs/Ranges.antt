@@ -11,13 +11,13 @@ use lib.Seq.{drop-cons}
 use lib.Dec.{T, eqb, eqb→eq}
 use borrow.Author.Tests.{le-leb, lt-leb}
 use Rattle.base.specs.Table.{NoneOf, ruled}
-use Rattle.comparable_range.specs.Range.{boundOf, nonEmpty, boundsPass}
+use Rattle.comparable_range.specs.Range.{boundOf}
 use Rattle.comparable_range.specs.Factors.{isKeyed}
 use Rattle.comparable_range.specs.declared.Kind.{Kind}
 use Rattle.comparable_range.specs.declared.Kind.the-variants.{Unbounded, Included, Excluded}
 use Rattle.format.specs.Got.{got, andThen}
 use Rattle.format.specs.Key.{readKey, KeyFound}
-use Rattle.format.specs.Range.{headOf, headByte, readBound, BoundFound, headed, readRange, RangeFound, RangeWhole, rangeIn}
+use Rattle.format.specs.Range.{headOf, headByte, readBound, BoundFound, headed, readRange, RangeFound, RangeWhole}
 use Rattle.format.specs.Whole.{whole}
 use Rattle.format.specs.declared.KeyRead.{KeyRead}
 use Rattle.format.specs.declared.KeyRead.the-variants.{At as KeyAt, Stop as KeyStop}
@@ -179,13 +179,3 @@ pub ruleset whole-exits = (too-large, not-read, bytes-left, all-read)
 -- ---- parts
 pub part-is : (s : List ℕ) (at len : ℕ) → take (at + len - at) (drop at s) ≡ take len (drop at s)
 part-is s at len = rw add-sub-cancel-left
-
-pub range-tested :
-    (s : List ℕ) (b c : BoundSpan) {x y : List ℕ} {w : Bool}
-    → x ≡ take (b .len) (drop (b .at) s)
-    → y ≡ take (c .len) (drop (c .at) s)
-    → w ≡ boundsPass (boundOf (b .kind) x) (boundOf (c .kind) y)
-    → w ≡ nonEmpty (rangeIn s b c)
-range-tested s b c p q h = h ∙ rw (p, q)
-
-pub ruleset part-exits = (part-is, range-tested)

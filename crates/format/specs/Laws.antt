@@ -1,15 +1,18 @@
--- The promises on layouts: reading and writing invert each other. Their proofs are in proofs/.
+-- The promises on layouts: reading and writing invert each other; and on ranges of two suppliers. Their proofs are in proofs/.
 use Prim.Native.Nat.{ℕ, _≤_, _<_, _^_}
 use mathlib.Core.Path.{_≡_}
 use mathlib.Core.List.{List, _++_}
+use mathlib.Core.Option.{Option·map}
 use lib.ListN.{length}
 use Rattle.base.specs.Bytes.{Bytes}
 use Rattle.key.specs.Order.{Key}
 use Rattle.comparable_range.specs.Range.{Bound, unbounded, included, excluded, Range}
+use Rattle.comparable_range.specs.Range as plain
 use Rattle.format.specs.Got.{Got, got}
 use Rattle.format.specs.Number.{readNumber, writeNumber}
 use Rattle.format.specs.Key.{readKey, writeKey}
 use Rattle.format.specs.Range.{readRange, writeRange}
+use Rattle.format.specs.Joint.{Joint, range, intersect}
 
 -- what an accepted front of a list is: the writing of its value, which is within the ceilings
 pub record Written {A : Type 0} (write : A → List ℕ) (Within : A → Type 0) (l : List ℕ) (v : A) (r : List ℕ) : Type 0 where
@@ -42,3 +45,8 @@ KeyLayout = Layout readKey writeKey KeyWithin
 
 abbrev pub RangeLayout : Type 0
 RangeLayout = Layout readRange writeRange RangeWithin
+
+-- ---- ranges of two suppliers
+-- without the suppliers, their intersection is the one of the plain ranges
+abbrev pub JointIntersectForgets : Type 0
+JointIntersectForgets = (j k : Joint) → Option·map range (intersect j k) ≡ plain.intersect (range j) (range k)

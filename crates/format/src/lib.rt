@@ -1,12 +1,12 @@
 // The layouts of document 01, "Images": keys and ranges. What is read is read in place: an answer says where it stands.
 mod range;
+pub mod span;
 mod write;
 
 pub use range::BoundSpan;
 pub use range::RangeRead;
 pub use range::head_byte;
 pub use range::key_of;
-pub use range::passes;
 pub use range::range_at;
 pub use range::range_whole;
 pub use write::put;

@@ -5,8 +5,7 @@ use comparable_range::Kind;
 ghost use mathlib.Core.Path.{_≡_};
 ghost use Prim.Native.Nat.{_≤_, _+_};
 ghost use lib.ListN.{length, take, drop};
-ghost use Rattle.comparable_range.specs.Range.{nonEmpty};
-ghost use Rattle.format.specs.Range.{headOf, headByte, readBound, readRange, BoundFound, RangeFound, RangeWhole, BoundInside, rangeIn};
+ghost use Rattle.format.specs.Range.{headOf, headByte, readBound, readRange, BoundFound, RangeFound, RangeWhole, BoundInside};
 
 // What the head byte says: the kinds of start and end.
 pub enum Head {
@@ -158,14 +157,4 @@ pub fn key_of(s: &[u8], b: BoundSpan) -> &[u8]
     let at = b.at;
     let end = at + b.len;
     &s[at..end]
-}
-
-// Whether a range that stands in a slice passes `non_empty`.
-pub fn passes(s: &[u8], start: BoundSpan, end: BoundSpan) -> bool
-    requires { ⌜ BoundInside (now s) start ⌝ ∗ ⌜ BoundInside (now s) end ⌝ }
-    ensures { λ r. ⌜ r ≡ nonEmpty (rangeIn (now (s .entry)) start end) ⌝ }
-{
-    let ks = start.kind;
-    let ke = end.kind;
-    comparable_range::non_empty(ks, key_of(s, start), ke, key_of(s, end))
 }

@@ -16,12 +16,12 @@ use Rattle.comparable_range.specs.Range.{Range, startSide, endSide, supplied, o
 use Rattle.comparable_range.specs.declared.Side.{Side}
 use Rattle.comparable_range.specs.declared.Sides.the-variants.{Nothing as NoSides, From}
 use Rattle.format.specs.Range.{BoundInside, rangeIn}
+use Rattle.format.specs.declared.span.RangeSpan.{RangeSpan}
 use Rattle.records.specs.Found.{isGot}
 use Rattle.records.specs.Values.{View}
 use Rattle.records.specs.Layouts.{view}
 use Rattle.records.specs.Spans.{viewIn}
 use Rattle.manifest.specs.Ranges.{effective}
-use Rattle.manifest.specs.declared.ranges.RangeSpan.{RangeSpan}
 use Rattle.incremental_progress.specs.Intervals.{listed}
 use Rattle.incremental_progress.specs.Draws.{Ten, Drawn, used-up, got, supply, draw, drawnView, fillAll}
 use Rattle.incremental_progress.specs.Entries.{Entry, cut}

@@ -80,7 +80,7 @@ pub fn keep_piece<'a>(
     ensures { λ r. ⌜ MoreKept (now (image .entry)) (gapsIn (now (job .entry)) m (now (table .entry))) m (now (ids .entry)) (fillAll (entriesIn (viewIn (now (image .entry)) (h .view)) (gapOf g (gapsIn (now (job .entry)) m (now (table .entry))))) (supply (drop from (now (ids .entry))))) (gapHere g (effective (viewIn (now (image .entry)) (h .view))) (gapOf g (gapsIn (now (job .entry)) m (now (table .entry))))) k (now (entries .entry)) (now (entries .exit)) r ⌝ }
 {
     let gap = progress::gap_at(job, table, m, g);
-    match pieces::piece_in(image, h.range, job, gap) {
+    match pieces::piece_of(image, h.range, job, gap) {
         Piece::Nothing => OneKept {
             count: k,
             next: from,

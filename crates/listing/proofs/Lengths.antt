@@ -16,6 +16,7 @@ use Rattle.comparable_range.specs.declared.Kind.{Kind}
 use Rattle.comparable_range.specs.declared.Kind.the-variants.{Unbounded, Included, Excluded}
 use Rattle.format.specs.Range.{boundIn, BoundInside}
 use Rattle.format.specs.declared.range.BoundSpan.{BoundSpan}
+use Rattle.format.specs.declared.span.RangeSpan.{RangeSpan}
 use Rattle.text.specs.Text.{decimalIn, decimal, hex, glyph}
 use Rattle.text.proofs.Hex.{hex-length}
 use Rattle.records.specs.Values.{View}
@@ -23,7 +24,6 @@ use Rattle.records.specs.Spans.{viewIn, ViewInside}
 use Rattle.records.specs.declared.views.ViewSpan.{ViewSpan}
 use Rattle.manifest.specs.Ranges.{effective}
 use Rattle.manifest.specs.Spans.{EffectiveFound}
-use Rattle.manifest.specs.declared.ranges.RangeSpan.{RangeSpan}
 use Rattle.listing.specs.Listing.{startText, endText, names, boundsText, line}
 
 -- ---- a key that stands in s

@@ -10,12 +10,12 @@ use Rattle.comparable_range.specs.Range.{Range}
 use Rattle.comparable_range.specs.declared.Kind.the-variants.{Unbounded, Included, Excluded}
 use Rattle.format.specs.Range.{boundIn, rangeIn, BoundInside}
 use Rattle.format.specs.declared.range.BoundSpan.{BoundSpan}
+use Rattle.format.specs.declared.span.RangeSpan.{RangeSpan}
 use Rattle.text.specs.Text.{decimal, hex}
 use Rattle.records.specs.Spans.{viewIn, ViewInside}
 use Rattle.records.specs.declared.views.ViewSpan.{ViewSpan}
 use Rattle.manifest.specs.Ranges.{effective}
 use Rattle.manifest.specs.Spans.{EffectiveFound}
-use Rattle.manifest.specs.declared.ranges.RangeSpan.{RangeSpan}
 use Rattle.listing.specs.Listing.{spaced, closed, startText, endText, names, boundsText, line}
 use Rattle.listing.proofs.Pieces.{first-room, second-room, both-put, both-past}
 

@@ -2,7 +2,7 @@
 use crate::Reached;
 use comparable_range::Kind;
 use format::BoundSpan;
-use manifest::RangeSpan;
+use format::span::RangeSpan;
 use records::CountRead;
 use records::RunRead;
 use records::ViewRead;

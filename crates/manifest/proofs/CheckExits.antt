@@ -10,11 +10,12 @@ use borrow.Author.Tests.{le-leb, lt-leb, lt-ltb, le-ltb}
 use Rattle.base.specs.Pick.{pick}
 use Rattle.key.specs.Order.{atMost}
 use Rattle.key.specs.declared.Order.{Order}
-use Rattle.comparable_range.specs.Range.{Range, boundOf, nonEmpty, cmpBound}
+use Rattle.comparable_range.specs.Range.{boundOf, nonEmpty, cmpBound}
 use Rattle.comparable_range.specs.declared.Kind.{Kind}
 use Rattle.comparable_range.specs.declared.Kind.the-variants.{Unbounded, Included, Excluded}
 use Rattle.format.specs.Range.{boundIn, rangeIn, BoundInside}
 use Rattle.format.specs.declared.range.BoundSpan.{BoundSpan}
+use Rattle.format.specs.declared.span.RangeSpan.{RangeSpan}
 use Rattle.records.specs.Spans.{tableIn, viewIn, ifSo, TableInside}
 use Rattle.records.specs.declared.tables.TableSpan.{TableSpan}
 use Rattle.records.specs.declared.views.ViewSpan.{ViewSpan}
@@ -22,7 +23,6 @@ use Rattle.manifest.specs.Ranges.{effective}
 use Rattle.manifest.specs.Checks.{visiblePasses, isExcluded, keysInOrder, tablePasses, sizePasses}
 use Rattle.manifest.specs.Faults.{faultOf, least, ordered, viewChecks}
 use Rattle.manifest.specs.Spans.{firstSpan, lastSpan, EffectiveFound, plainKind, plainStart, sizeFits}
-use Rattle.manifest.specs.declared.ranges.RangeSpan.{RangeSpan}
 use Rattle.manifest.proofs.ViewRanges.{own-passes, meets-alone, startsPlain}
 use Rattle.manifest.proofs.RangeExits.{own-in}
 
@@ -116,9 +116,9 @@ module _ (s : List ℕ) (v : ViewSpan) {a : Bool} (ha : a ≡ visiblePasses (vie
 pub ruleset fault-exits = (fault-4, fault-5, fault-7, fault-none)
 
 -- ---- order_fault, lesser
-module _ (s : List ℕ) (a b : BoundSpan) {x y : List ℕ} {o : Order} {t : Bool} (p : x ≡ take (a .len) (drop (a .at) s)) (q : y ≡ take (b .len) (drop (b .at) s)) (h : o ≡ cmpBound true (boundOf (a .kind) x) (boundOf (b .kind) y)) (w : t ≡ atMost o) where
+module _ (s : List ℕ) (a b : BoundSpan) {o : Order} {t : Bool} (h : o ≡ cmpBound true (boundIn s a) (boundIn s b)) (w : t ≡ atMost o) where
   order-is : atMost (cmpBound true (boundIn s a) (boundIn s b)) ≡ t
-  order-is = sym (w ∙ rw (h, p, q))
+  order-is = sym (w ∙ rw h)
 
   pub ascends : t ≡ true → 8 ≡ faultOf (ordered (atMost (cmpBound true (boundIn s a) (boundIn s b))))
   unfolding faultOf

@@ -21,6 +21,7 @@ use Rattle.format.specs.Got.{Got, got, stop, andThen}
 use Rattle.format.specs.Number.{readNumber}
 use Rattle.format.specs.Range.{boundIn, BoundInside}
 use Rattle.format.specs.declared.range.BoundSpan.{BoundSpan}
+use Rattle.format.specs.declared.span.RangeSpan.{RangeSpan}
 use Rattle.records.specs.Form.{readMany, taken}
 use Rattle.records.specs.Values.{View, Run}
 use Rattle.records.specs.Layouts.{view, run, image, upTo, countOf}
@@ -38,7 +39,6 @@ use Rattle.manifest.specs.Ranges.{effective}
 use Rattle.manifest.specs.Checks.{Checks, imageChecks, starts, has}
 use Rattle.manifest.specs.Faults.{faultOf, least, ordered, viewChecks, viewsChecks, lastOf}
 use Rattle.manifest.specs.Spans.{EffectiveFound, faults, judged, JudgedFound}
-use Rattle.manifest.specs.declared.ranges.RangeSpan.{RangeSpan}
 use Rattle.manifest.specs.declared.images.Judged.{Judged}
 use Rattle.manifest.specs.declared.images.Judged.the-variants.{At, Stop}
 use Rattle.manifest.proofs.Steps.{views-none, views-more, starts-more, last-more, image-none, image-more}

@@ -31,16 +31,6 @@ without-last f i n e = rw e
 
 pub ruleset own-exits = (with-last, without-last)
 
--- ---- greater_start, lesser_end
-module _ (s : List ℕ) (a b : BoundSpan) {x y : List ℕ} {d : Side} {r : BoundSpan} (p : x ≡ take (a .len) (drop (a .at) s)) (q : y ≡ take (b .len) (drop (b .at) s)) where
-  pub start-chosen : d ≡ startSide (boundOf (a .kind) x) (boundOf (b .kind) y) → r ≡ of d a b → r ≡ of (startSide (boundIn s a) (boundIn s b)) a b
-  start-chosen h w = w ∙ rw (h, p, q)
-
-  pub end-chosen : d ≡ endSide (boundOf (a .kind) x) (boundOf (b .kind) y) → r ≡ of d a b → r ≡ of (endSide (boundIn s a) (boundIn s b)) a b
-  end-chosen h w = w ∙ rw (h, p, q)
-
-pub ruleset side-exits = (start-chosen, end-chosen)
-
 -- ---- effective
 of-in : (s : List ℕ) (d : Side) (a b : BoundSpan) → boundIn s (of d a b) ≡ of d (boundIn s a) (boundIn s b)
 of-in s First a b = refl
@@ -79,17 +69,19 @@ module _ (s : List ℕ) (v : ViewSpan) (p : ViewInside s v) {a b : BoundSpan} (h
   not-shown e = record { meaning = own-is ∙ rw e; start = first-inside s v p h; end = last-inside s v p l }
 
   pub shown :
-      {c d : BoundSpan}
+      {c d : BoundSpan} {j k : Side}
       → v .shown ≡ true
-      → c ≡ of (startSide (boundIn s a) (boundIn s (v .start))) a (v .start)
-      → d ≡ of (endSide (boundIn s b) (boundIn s (v .end))) b (v .end)
+      → j ≡ startSide (boundIn s a) (boundIn s (v .start))
+      → c ≡ of j a (v .start)
+      → k ≡ endSide (boundIn s b) (boundIn s (v .end))
+      → d ≡ of k b (v .end)
       → EffectiveFound s v (record { start = c; end = d })
   unfolding effective
-  shown e x y =
+  shown {c} {d} {j} {k} e g x i y =
       record {
-        meaning = cut e x y;
-        start = rw x (of-inside s (startSide (boundIn s a) (boundIn s (v .start))) a (v .start) (first-inside s v p h) (p .start));
-        end = rw y (of-inside s (endSide (boundIn s b) (boundIn s (v .end))) b (v .end) (last-inside s v p l) (p .end));
+        meaning = cut e (x ∙ rw g) (y ∙ rw i);
+        start = rw x (of-inside s j a (v .start) (first-inside s v p h) (p .start));
+        end = rw y (of-inside s k b (v .end) (last-inside s v p l) (p .end));
       }
     where
       starts : boundIn s a ≡ own (tableIn s (v .table)) .start

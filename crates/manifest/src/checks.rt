@@ -1,9 +1,9 @@
 // The checks 4, 5 and 7 of one view, each over the bytes of the image that it stands in.
-use crate::ranges::RangeSpan;
 use crate::ranges::own_end;
 use crate::ranges::own_start;
 use comparable_range::Kind;
 use format::BoundSpan;
+use format::span::RangeSpan;
 use records::TableSpan;
 use records::ViewSpan;
 ghost use mathlib.Core.Path.{_≡_};
@@ -24,7 +24,7 @@ fn visible_passes(s: &[u8], v: ViewSpan) -> bool
     if v.shown {
         let a = v.start;
         let b = v.end;
-        return format::passes(s, a, b);
+        return format::span::passes(s, a, s, b);
     }
     true
 }
@@ -34,7 +34,7 @@ pub fn keys_in_order(s: &[u8], t: TableSpan) -> bool
     requires { ⌜ TableInside (now s) t ⌝ }
     ensures { λ r. ⌜ r ≡ keysInOrder (tableIn (now (s .entry)) t) ⌝ }
 {
-    format::passes(s, own_start(t), own_end(t))
+    format::span::passes(s, own_start(t), s, own_end(t))
 }
 
 fn plain(kind: Kind) -> bool
@@ -68,7 +68,7 @@ fn table_passes(s: &[u8], v: ViewSpan, e: RangeSpan) -> bool
     if starts_plain(v) {
         let a = e.start;
         let b = e.end;
-        return format::passes(s, a, b);
+        return format::span::passes(s, a, s, b);
     }
     false
 }
@@ -112,15 +112,7 @@ pub fn order_fault(s: &[u8], before: BoundSpan, start: BoundSpan) -> u8
     requires { ⌜ BoundInside (now s) before ⌝ ∗ ⌜ BoundInside (now s) start ⌝ }
     ensures { λ r. ⌜ r ≡ faultOf (ordered (atMost (cmpBound true (boundIn (now (s .entry)) before) (boundIn (now (s .entry)) start)))) ⌝ }
 {
-    let ka = before.kind;
-    let kb = start.kind;
-    if key::at_most(comparable_range::cmp_bound(
-        ka,
-        format::key_of(s, before),
-        kb,
-        format::key_of(s, start),
-        true,
-    )) {
+    if key::at_most(format::span::compare(s, before, s, start, true)) {
         return 8;
     }
     6

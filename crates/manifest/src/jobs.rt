@@ -64,7 +64,7 @@ fn planned_fault(s: &[u8], start: BoundSpan, end: BoundSpan) -> u8
     requires { ⌜ BoundInside (now s) start ⌝ ∗ ⌜ BoundInside (now s) end ⌝ }
     ensures { λ r. ⌜ r ≡ faultOf (planned (nonEmpty (rangeIn (now (s .entry)) start end))) ⌝ }
 {
-    if format::passes(s, start, end) {
+    if format::span::passes(s, start, s, end) {
         return 8;
     }
     4

@@ -12,5 +12,4 @@ pub use images::image_judged;
 pub use indexes::index_at;
 pub use indexes::index_judged;
 pub use jobs::job_judged;
-pub use ranges::RangeSpan;
 pub use ranges::effective;

@@ -12,48 +12,38 @@ use mir.Syntax.{w64}
 use Rattle.base.specs.Bytes.{Bytes}
 use Rattle.base.specs.Splice.{splice}
 use Rattle.key.specs.Order.{Key}
-use Rattle.comparable_range.specs.Range.{Range, boundOf, rangeOf, of, startSide, endSide, supplied, overlap}
-use Rattle.comparable_range.specs.declared.Kind.{Kind}
+use Rattle.comparable_range.specs.Range.{Bound, Range, rangeOf, of, startSide, endSide, overlap}
 use Rattle.comparable_range.specs.declared.Side.{Side}
 use Rattle.format.specs.Range.{BoundInside, boundIn, rangeIn, writeRange}
+use Rattle.format.specs.Joint.{range}
+use Rattle.format.specs.Span.{SuppliedInside, suppliedBound, boundKey, JointInside, jointIn}
 use Rattle.format.specs.declared.range.BoundSpan.{BoundSpan}
+use Rattle.format.specs.declared.span.RangeSpan.{RangeSpan}
+use Rattle.format.specs.declared.span.JointSpan.{JointSpan}
+use Rattle.format.proofs.Spans.{side-inside, side-bound}
+use Rattle.format.proofs.Joints.{supplied-bound}
 use Rattle.records.specs.Values.{View}
-use Rattle.records.specs.Layouts.{table, view}
+use Rattle.records.specs.Layouts.{view}
 use Rattle.records.specs.Spans.{viewIn}
 use Rattle.manifest.specs.Ranges.{effective}
-use Rattle.manifest.specs.declared.ranges.RangeSpan.{RangeSpan}
 use Rattle.incremental_progress.specs.Draws.{drawnView}
 use Rattle.drawn.specs.Bytes.{partOf, newIdBytes, cutBytes}
 use Rattle.drawn.proofs.WriteExits.{cut-view-bytes}
 use Rattle.records.specs.Found.{isGot}
 use Rattle.progress.specs.Tables.{gapsIn, GapFound, Table as GapTable}
 use Rattle.pieces.specs.Held.{Inputs, HeldAt, ViewReady, GapReady}
-use Rattle.pieces.specs.Entries.{viewHere, gapOf, entryBy, entryView, TenThere, EntryInside}
+use Rattle.pieces.specs.Entries.{viewHere, gapOf, entryView, TenThere, EntryInside}
 use Rattle.pieces.specs.declared.held.ViewHeld.{ViewHeld}
 use Rattle.new_image.specs.Bytes.{wholeBytes, newBytes}
-use Rattle.new_image.specs.declared.entry.TwoSides.{TwoSides}
 use Rattle.pieces.proofs.HeldExits.{held-place, held-id, held-table-bytes, held-bytes}
-use Rattle.pieces.proofs.LenExits.{spanKey, range-by}
 
--- ---- sides_of
-pub start-side-is : (s t : List ℕ) (a b : BoundSpan) {x y : Key} {r : Side} → x ≡ spanKey s a → y ≡ spanKey t b → r ≡ startSide (boundOf (a .kind) x) (boundOf (b .kind) y) → r ≡ startSide (boundIn s a) (boundIn t b)
-start-side-is s t a b hx hy e = e ∙ rw (hx, hy)
-
-pub end-side-is : (s t : List ℕ) (a b : BoundSpan) {x y : Key} {r : Side} → x ≡ spanKey s a → y ≡ spanKey t b → r ≡ endSide (boundOf (a .kind) x) (boundOf (b .kind) y) → r ≡ endSide (boundIn s a) (boundIn t b)
-end-side-is s t a b hx hy e = e ∙ rw (hx, hy)
-
-pub ruleset sides-exits = (start-side-is, end-side-is)
-
--- ---- put_drawn
+-- ---- put_shared
 module _ {image : List ℕ} {at : ℕ} {h : ViewHeld} (y : ViewReady image at h) where
   pub drawn-start : BoundInside image (h .range .start)
   drawn-start = y .held .range .start
 
   pub drawn-end : BoundInside image (h .range .end)
   drawn-end = y .held .range .end
-
-  pub drawn-small : length image ≤ 65536
-  drawn-small = y .small
 
   pub drawn-id : at + 16 ≤ length image
   drawn-id = held-place (y .held) (y .place)
@@ -67,65 +57,78 @@ module _ {image : List ℕ} {at : ℕ} {h : ViewHeld} (y : ViewReady image at h)
   pub drawn-table-end : h .end ≤ length image
   drawn-table-end = y .held .table-ends .inside
 
-  module _ (job : List ℕ) (gap : RangeSpan) (ids : List ℕ) (ten : ℕ) (a b : Side) {u v : Key} {k l : Kind} (hu : u ≡ of a (spanKey image (h .range .start)) (spanKey job (gap .start))) (hv : v ≡ of b (spanKey image (h .range .end)) (spanKey job (gap .end))) (hk : k ≡ of a (h .range .start .kind) (gap .start .kind)) (hl : l ≡ of b (h .range .end .kind) (gap .end .kind)) where
-    this : View
-    this = viewIn image (h .view)
-
-    the-gap : Range
-    the-gap = rangeIn job (gap .start) (gap .end)
-
-    range-is : rangeOf k u l v ≡ supplied (effective this) the-gap a b
-    unfolding this the-gap
+  module _ (job : List ℕ) (x : JointSpan) (ids : List ℕ) (ten : ℕ) {u v : Key} (hu : u ≡ boundKey (suppliedBound image job (x .start))) (hv : v ≡ boundKey (suppliedBound image job (x .end))) where
+    range-is : rangeOf (x .start .bound .kind) u (x .end .bound .kind) v ≡ range (jointIn image job x)
     range-is =
-        rw (hu, hv, hk, hl, range-by a b (h .range .start .kind) (h .range .end .kind) (gap .start .kind) (gap .end .kind) (spanKey image (h .range .start)) (spanKey image (h .range .end)) (spanKey job (gap .start)) (spanKey job (gap .end)))
-        (ap (λ r. supplied r the-gap a b) (y .held .range .meaning))
+        ap₂ (λ (s e : Bound). record { start = s; end = e })
+        (supplied-bound image job (x .start) refl hu)
+        (supplied-bound image job (x .end) refl hv)
 
-    id-bytes : newIdBytes image at ids ten ≡ take 6 (this .id .0) ++ take 10 (drop ten ids)
-    unfolding newIdBytes this
+    id-bytes : newIdBytes image at ids ten ≡ take 6 (viewIn image (h .view) .id .0) ++ take 10 (drop ten ids)
+    unfolding newIdBytes
     id-bytes =
         let p : at + 6 - at ≡ 6 = omega arith in
         let q : ten + 10 - ten ≡ 10 = omega arith in
         rw (p, q, ← held-id (y .held), take-take 6 16 (drop at image) (omega arith))
 
-    bytes-are : cutBytes (newIdBytes image at ids ten) (partOf image (at + 16) (h .end)) (writeRange (rangeOf k u l v)) ≡ view .write (drawnView (viewIn image (h .view)) (supplied (effective (viewIn image (h .view))) (rangeIn job (gap .start) (gap .end)) a b) (take 10 (drop ten ids)))
-    unfolding this the-gap
-    bytes-are = rw (id-bytes, range-is, held-table-bytes (y .held) (y .bytes) (y .place) .0) (sym (cut-view-bytes this (supplied (effective this) the-gap a b) (take 10 (drop ten ids))))
+    bytes-are : cutBytes (newIdBytes image at ids ten) (partOf image (at + 16) (h .end)) (writeRange (rangeOf (x .start .bound .kind) u (x .end .bound .kind) v)) ≡ view .write (drawnView (viewIn image (h .view)) (range (jointIn image job x)) (take 10 (drop ten ids)))
+    bytes-are =
+        rw (id-bytes, range-is, held-table-bytes (y .held) (y .bytes) (y .place) .0)
+        (sym (cut-view-bytes (viewIn image (h .view)) (range (jointIn image job x)) (take 10 (drop ten ids))))
 
-    pub drawn-room : (out : List ℕ) (to : ℕ) → to + length (view .write (drawnView (viewIn image (h .view)) (supplied (effective (viewIn image (h .view))) (rangeIn job (gap .start) (gap .end)) a b) (take 10 (drop ten ids)))) ≤ length out → to + length (cutBytes (newIdBytes image at ids ten) (partOf image (at + 16) (h .end)) (writeRange (rangeOf k u l v))) ≤ length out
+    pub drawn-room : (out : List ℕ) (to : ℕ) → to + length (view .write (drawnView (viewIn image (h .view)) (range (jointIn image job x)) (take 10 (drop ten ids)))) ≤ length out → to + length (cutBytes (newIdBytes image at ids ten) (partOf image (at + 16) (h .end)) (writeRange (rangeOf (x .start .bound .kind) u (x .end .bound .kind) v))) ≤ length out
     drawn-room out to r = rw bytes-are r
 
-    pub drawn-past : (to : ℕ) {z : ℕ} → z ≡ to + length (cutBytes (newIdBytes image at ids ten) (partOf image (at + 16) (h .end)) (writeRange (rangeOf k u l v))) → z ≡ to + length (view .write (drawnView (viewIn image (h .view)) (supplied (effective (viewIn image (h .view))) (rangeIn job (gap .start) (gap .end)) a b) (take 10 (drop ten ids))))
+    pub drawn-past : (to : ℕ) {z : ℕ} → z ≡ to + length (cutBytes (newIdBytes image at ids ten) (partOf image (at + 16) (h .end)) (writeRange (rangeOf (x .start .bound .kind) u (x .end .bound .kind) v))) → z ≡ to + length (view .write (drawnView (viewIn image (h .view)) (range (jointIn image job x)) (take 10 (drop ten ids))))
     drawn-past to e = e ∙ ap (λ l. to + length l) bytes-are
 
-    pub drawn-put : (out : List ℕ) (to : ℕ) {f : List ℕ} → f ≡ splice out to (cutBytes (newIdBytes image at ids ten) (partOf image (at + 16) (h .end)) (writeRange (rangeOf k u l v))) → f ≡ splice out to (view .write (drawnView (viewIn image (h .view)) (supplied (effective (viewIn image (h .view))) (rangeIn job (gap .start) (gap .end)) a b) (take 10 (drop ten ids))))
+    pub drawn-put : (out : List ℕ) (to : ℕ) {f : List ℕ} → f ≡ splice out to (cutBytes (newIdBytes image at ids ten) (partOf image (at + 16) (h .end)) (writeRange (rangeOf (x .start .bound .kind) u (x .end .bound .kind) v))) → f ≡ splice out to (view .write (drawnView (viewIn image (h .view)) (range (jointIn image job x)) (take 10 (drop ten ids))))
     drawn-put out to e = e ∙ ap (splice out to) bytes-are
 
+pub shared-start : {image job : List ℕ} {x : JointSpan} → JointInside image job x → SuppliedInside image job (x .start)
+shared-start i = i .start
+
+pub shared-end : {image job : List ℕ} {x : JointSpan} → JointInside image job x → SuppliedInside image job (x .end)
+shared-end i = i .end
+
+pub ruleset drawn-exits = (shared-start, shared-end, drawn-id, drawn-id-fits, drawn-table, drawn-table-end, drawn-room, drawn-past, drawn-put)
+
+-- ---- put_drawn: the greater start and the lesser end, each in the slice of its side, are those of the overlap
 pub gap-start : {job : List ℕ} {gap : RangeSpan} → GapReady job gap → BoundInside job (gap .start)
 gap-start g = g .start
 
 pub gap-end : {job : List ℕ} {gap : RangeSpan} → GapReady job gap → BoundInside job (gap .end)
 gap-end g = g .end
 
-pub gap-small : {job : List ℕ} {gap : RangeSpan} → GapReady job gap → length job ≤ 65536
-gap-small g = g .small
+abbrev joined : Side → BoundSpan → Side → BoundSpan → JointSpan
+joined a m b n = record { start = record { side = a; bound = m }; end = record { side = b; bound = n } }
 
--- ---- put_drawn: the sides are those of the overlap
-module _ (image : List ℕ) {at : ℕ} {h : ViewHeld} (y : ViewReady image at h) (job : List ℕ) (gap : RangeSpan) {w : TwoSides} (ha : w .start ≡ startSide (boundIn image (h .range .start)) (boundIn job (gap .start))) (hb : w .end ≡ endSide (boundIn image (h .range .end)) (boundIn job (gap .end))) where
-  pub sides-are : supplied (effective (viewIn image (h .view))) (rangeIn job (gap .start) (gap .end)) (w .start) (w .end) ≡ overlap (effective (viewIn image (h .view))) (rangeIn job (gap .start) (gap .end))
-  sides-are = rw (ha, hb, ← (y .held .range .meaning))
+module _ (image : List ℕ) {at : ℕ} {h : ViewHeld} (y : ViewReady image at h) (job : List ℕ) {gap : RangeSpan} (g : GapReady job gap) (a b : Side) {m n : BoundSpan} (hm : m ≡ of a (h .range .start) (gap .start)) (hn : n ≡ of b (h .range .end) (gap .end)) where
+  pub shared-inside : JointInside image job (joined a m b n)
+  shared-inside =
+      record {
+        start = side-inside a image job (h .range .start) (gap .start) refl hm (drawn-start y) (gap-start g);
+        end = side-inside b image job (h .range .end) (gap .end) refl hn (drawn-end y) (gap-end g);
+      }
 
-  pub shared-room : (ids : List ℕ) (ten : ℕ) (out : List ℕ) (to : ℕ) → to + length (view .write (drawnView (viewIn image (h .view)) (overlap (effective (viewIn image (h .view))) (rangeIn job (gap .start) (gap .end))) (take 10 (drop ten ids)))) ≤ length out → to + length (view .write (drawnView (viewIn image (h .view)) (supplied (effective (viewIn image (h .view))) (rangeIn job (gap .start) (gap .end)) (w .start) (w .end)) (take 10 (drop ten ids)))) ≤ length out
-  shared-room ids ten out to r = rw sides-are r
+  module _ (ha : a ≡ startSide (boundIn image (h .range .start)) (boundIn job (gap .start))) (hb : b ≡ endSide (boundIn image (h .range .end)) (boundIn job (gap .end))) where
+    shared-is : range (jointIn image job (joined a m b n)) ≡ overlap (effective (viewIn image (h .view))) (rangeIn job (gap .start) (gap .end))
+    shared-is =
+        ap₂ (λ (s e : Bound). record { start = s; end = e })
+        (side-bound a image job (h .range .start) (gap .start) refl hm refl)
+        (side-bound b image job (h .range .end) (gap .end) refl hn refl)
+        ∙ rw (ha, hb, ← (y .held .range .meaning))
 
-  pub shared-past : (ids : List ℕ) (ten to : ℕ) {z : ℕ} → z ≡ to + length (view .write (drawnView (viewIn image (h .view)) (supplied (effective (viewIn image (h .view))) (rangeIn job (gap .start) (gap .end)) (w .start) (w .end)) (take 10 (drop ten ids)))) → z ≡ to + length (view .write (drawnView (viewIn image (h .view)) (overlap (effective (viewIn image (h .view))) (rangeIn job (gap .start) (gap .end))) (take 10 (drop ten ids))))
-  shared-past ids ten to e = e ∙ rw sides-are
+    pub shared-room : (ids : List ℕ) (ten : ℕ) (out : List ℕ) (to : ℕ) → to + length (view .write (drawnView (viewIn image (h .view)) (overlap (effective (viewIn image (h .view))) (rangeIn job (gap .start) (gap .end))) (take 10 (drop ten ids)))) ≤ length out → to + length (view .write (drawnView (viewIn image (h .view)) (range (jointIn image job (joined a m b n))) (take 10 (drop ten ids)))) ≤ length out
+    shared-room ids ten out to r = rw shared-is r
 
-  pub shared-put : (ids : List ℕ) (ten : ℕ) (out : List ℕ) (to : ℕ) {f : List ℕ} → f ≡ splice out to (view .write (drawnView (viewIn image (h .view)) (supplied (effective (viewIn image (h .view))) (rangeIn job (gap .start) (gap .end)) (w .start) (w .end)) (take 10 (drop ten ids)))) → f ≡ splice out to (view .write (drawnView (viewIn image (h .view)) (overlap (effective (viewIn image (h .view))) (rangeIn job (gap .start) (gap .end))) (take 10 (drop ten ids))))
-  shared-put ids ten out to e = e ∙ rw sides-are
+    pub shared-past : (ids : List ℕ) (ten to : ℕ) {z : ℕ} → z ≡ to + length (view .write (drawnView (viewIn image (h .view)) (range (jointIn image job (joined a m b n))) (take 10 (drop ten ids)))) → z ≡ to + length (view .write (drawnView (viewIn image (h .view)) (overlap (effective (viewIn image (h .view))) (rangeIn job (gap .start) (gap .end))) (take 10 (drop ten ids))))
+    shared-past ids ten to e = e ∙ rw shared-is
 
-pub ruleset shared-exits = (gap-start, gap-end, drawn-start, drawn-end, shared-room, shared-past, shared-put)
+    pub shared-put : (ids : List ℕ) (ten : ℕ) (out : List ℕ) (to : ℕ) {f : List ℕ} → f ≡ splice out to (view .write (drawnView (viewIn image (h .view)) (range (jointIn image job (joined a m b n))) (take 10 (drop ten ids)))) → f ≡ splice out to (view .write (drawnView (viewIn image (h .view)) (overlap (effective (viewIn image (h .view))) (rangeIn job (gap .start) (gap .end))) (take 10 (drop ten ids))))
+    shared-put ids ten out to e = e ∙ rw shared-is
 
-pub ruleset drawn-exits = (gap-start, gap-end, gap-small, drawn-start, drawn-end, drawn-small, drawn-id, drawn-id-fits, drawn-table, drawn-table-end, drawn-room, drawn-past, drawn-put)
+pub ruleset shared-exits = (gap-start, gap-end, drawn-start, drawn-end, shared-inside, shared-room, shared-past, shared-put)
 
 -- ---- put_whole
 module _ {image : List ℕ} {a : ℕ} {h : ViewHeld} (p : HeldAt image a h) where

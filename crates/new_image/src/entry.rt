@@ -1,6 +1,8 @@
 // One piece of a view, written from the three numbers that are kept of it.
-use comparable_range::Side;
-use manifest::RangeSpan;
+use format::span;
+use format::span::JointSpan;
+use format::span::RangeSpan;
+use format::span::Supplied;
 use pieces::ViewHeld;
 ghost use mathlib.Core.Path.{_≡_};
 ghost use Prim.Native.Nat.{_≤_, _+_, _<_};
@@ -8,8 +10,10 @@ ghost use lib.Dec.{T};
 ghost use lib.ListN.{length, take, drop};
 ghost use Rattle.base.specs.Bytes.{Bytes};
 ghost use Rattle.base.specs.Splice.{splice};
-ghost use Rattle.comparable_range.specs.Range.{startSide, endSide, supplied, overlap};
-ghost use Rattle.format.specs.Range.{BoundInside, boundIn, rangeIn};
+ghost use Rattle.comparable_range.specs.Range.{overlap};
+ghost use Rattle.format.specs.Range.{rangeIn};
+ghost use Rattle.format.specs.Joint.{range};
+ghost use Rattle.format.specs.Span.{JointInside, jointIn};
 ghost use Rattle.records.specs.Found.{isGot};
 ghost use Rattle.records.specs.Layouts.{view};
 ghost use Rattle.records.specs.Spans.{viewIn};
@@ -20,68 +24,34 @@ ghost use Rattle.pieces.specs.Held.{Inputs, ViewReady, GapReady};
 ghost use Rattle.pieces.specs.Entries.{EntryInside, entryView};
 ghost use Rattle.new_image.specs.Bytes.{wholeBytes, newBytes};
 
-// Which of two ranges, one in image and one in job, supplies the start of what they share, and which the end.
-pub struct TwoSides {
-    pub start: Side,
-    pub end: Side,
-}
-
-fn sides_of<'a>(image: &'a [u8], e: RangeSpan, job: &'a [u8], g: RangeSpan) -> TwoSides
-    requires { ⌜ BoundInside (now image) (e .start) ⌝ ∗ ⌜ BoundInside (now image) (e .end) ⌝ ∗ ⌜ BoundInside (now job) (g .start) ⌝ ∗ ⌜ BoundInside (now job) (g .end) ⌝ }
-    ensures { λ r. ⌜ r .start ≡ startSide (boundIn (now (image .entry)) (e .start)) (boundIn (now (job .entry)) (g .start)) ⌝ }
-    ensures { λ r. ⌜ r .end ≡ endSide (boundIn (now (image .entry)) (e .end)) (boundIn (now (job .entry)) (g .end)) ⌝ }
-{
-    let a = e.start;
-    let b = e.end;
-    let c = g.start;
-    let d = g.end;
-    let ka = a.kind;
-    let kb = b.kind;
-    let kc = c.kind;
-    let kd = d.kind;
-    TwoSides {
-        start: comparable_range::start_side(
-            ka,
-            format::key_of(image, a),
-            kc,
-            format::key_of(job, c),
-        ),
-        end: comparable_range::end_side(kb, format::key_of(image, b), kd, format::key_of(job, d)),
-    }
-}
-
-// A range of a view, which stands at a place of image, under a new id with ten bytes of the supply. Its bounds are the
-// view's or the gap's.
+// A range of a view, which stands at a place of image, under a new id with ten bytes of the supply. Its bounds stand in
+// image (first) or in job (second).
 fn put_shared<'a>(
     image: &'a [u8],
     at: usize,
     h: ViewHeld,
     job: &'a [u8],
-    gap: RangeSpan,
-    sides: TwoSides,
+    shared: JointSpan,
     ids: &[u8],
     ten: usize,
     out: &mut [u8],
     to: usize,
 ) -> usize
-    requires { ⌜ ViewReady (now image) at h ⌝ ∗ ⌜ GapReady (now job) gap ⌝ ∗ ⌜ ten + 10 ≤ length (now ids) ⌝ }
-    requires { ⌜ to + length (view .write (drawnView (viewIn (now image) (h .view)) (supplied (effective (viewIn (now image) (h .view))) (rangeIn (now job) (gap .start) (gap .end)) (sides .start) (sides .end)) (take 10 (drop ten (now ids))))) ≤ length (now out) ⌝ }
-    ensures { λ r. ⌜ r ≡ to + length (view .write (drawnView (viewIn (now (image .entry)) (h .view)) (supplied (effective (viewIn (now (image .entry)) (h .view))) (rangeIn (now (job .entry)) (gap .start) (gap .end)) (sides .start) (sides .end)) (take 10 (drop ten (now (ids .entry)))))) ⌝ }
-    ensures { λ r. ⌜ now (out .exit) ≡ splice (now (out .entry)) to (view .write (drawnView (viewIn (now (image .entry)) (h .view)) (supplied (effective (viewIn (now (image .entry)) (h .view))) (rangeIn (now (job .entry)) (gap .start) (gap .end)) (sides .start) (sides .end)) (take 10 (drop ten (now (ids .entry)))))) ⌝ }
+    requires { ⌜ ViewReady (now image) at h ⌝ ∗ ⌜ JointInside (now image) (now job) shared ⌝ ∗ ⌜ ten + 10 ≤ length (now ids) ⌝ }
+    requires { ⌜ to + length (view .write (drawnView (viewIn (now image) (h .view)) (range (jointIn (now image) (now job) shared)) (take 10 (drop ten (now ids))))) ≤ length (now out) ⌝ }
+    ensures { λ r. ⌜ r ≡ to + length (view .write (drawnView (viewIn (now (image .entry)) (h .view)) (range (jointIn (now (image .entry)) (now (job .entry)) shared)) (take 10 (drop ten (now (ids .entry)))))) ⌝ }
+    ensures { λ r. ⌜ now (out .exit) ≡ splice (now (out .entry)) to (view .write (drawnView (viewIn (now (image .entry)) (h .view)) (range (jointIn (now (image .entry)) (now (job .entry)) shared)) (take 10 (drop ten (now (ids .entry)))))) ⌝ }
 {
-    let e = h.range;
-    let end = h.end;
-    let es = e.start;
-    let ee = e.end;
-    let gs = gap.start;
-    let ge = gap.end;
-    let a = sides.start;
-    let b = sides.end;
-    let ks = pieces::kind_by(a, es, gs);
-    let ke = pieces::kind_by(b, ee, ge);
-    let s = pieces::key_by(a, image, es, job, gs);
-    let t = pieces::key_by(b, image, ee, job, ge);
-    drawn::put_cut(image, at, at + 16, end, ids, ten, ks, s, ke, t, out, to)
+    let past = h.end;
+    let start = shared.start;
+    let end = shared.end;
+    let a = start.bound;
+    let b = end.bound;
+    let ks = a.kind;
+    let ke = b.kind;
+    let s = span::supplied_key(image, job, start);
+    let e = span::supplied_key(image, job, end);
+    drawn::put_cut(image, at, at + 16, past, ids, ten, ks, s, ke, e, out, to)
 }
 
 // What a view, which stands at a place of image, shows in a gap, under a new id with ten bytes of the supply.
@@ -101,8 +71,28 @@ fn put_drawn<'a>(
     ensures { λ r. ⌜ r ≡ to + length (view .write (drawnView (viewIn (now (image .entry)) (h .view)) (overlap (effective (viewIn (now (image .entry)) (h .view))) (rangeIn (now (job .entry)) (gap .start) (gap .end))) (take 10 (drop ten (now (ids .entry)))))) ⌝ }
     ensures { λ r. ⌜ now (out .exit) ≡ splice (now (out .entry)) to (view .write (drawnView (viewIn (now (image .entry)) (h .view)) (overlap (effective (viewIn (now (image .entry)) (h .view))) (rangeIn (now (job .entry)) (gap .start) (gap .end))) (take 10 (drop ten (now (ids .entry)))))) ⌝ }
 {
-    let sides = sides_of(image, h.range, job, gap);
-    put_shared(image, at, h, job, gap, sides, ids, ten, out, to)
+    let e = h.range;
+    let a = span::greater_start(image, e.start, job, gap.start);
+    let b = span::lesser_end(image, e.end, job, gap.end);
+    let start = Supplied {
+        side: a,
+        bound: span::bound_of(a, e.start, gap.start),
+    };
+    let end = Supplied {
+        side: b,
+        bound: span::bound_of(b, e.end, gap.end),
+    };
+    put_shared(
+        image,
+        at,
+        h,
+        job,
+        JointSpan { start, end },
+        ids,
+        ten,
+        out,
+        to,
+    )
 }
 
 // The view at a place of image, copied byte for byte.

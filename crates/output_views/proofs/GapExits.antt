@@ -13,7 +13,7 @@ use Rattle.comparable_range.specs.declared.Side.{Side}
 use Rattle.comparable_range.specs.declared.Sides.{Sides}
 use Rattle.comparable_range.specs.declared.Sides.the-variants.{Nothing as NoSides, From}
 use Rattle.format.specs.Range.{rangeIn}
-use Rattle.manifest.specs.declared.ranges.RangeSpan.{RangeSpan}
+use Rattle.format.specs.declared.span.RangeSpan.{RangeSpan}
 use Rattle.incremental_progress.specs.Intervals.{listed}
 use Rattle.incremental_progress.specs.Gaps.{pieces}
 use Rattle.incremental_progress.specs.Checks.{nothingLeft}

@@ -10,6 +10,7 @@ use lib.Dec.{T}
 use borrow.Author.Tests.{not-true, not-false}
 use Rattle.comparable_range.specs.Range.{Range}
 use Rattle.format.specs.Range.{rangeIn}
+use Rattle.format.specs.declared.span.RangeSpan.{RangeSpan}
 use Rattle.records.specs.Form.{readMany}
 use Rattle.records.specs.Found.{isGot, valuesOf}
 use Rattle.records.specs.Values.{View, Part}
@@ -20,7 +21,6 @@ use Rattle.records.specs.declared.views.ViewRead.{ViewRead}
 use Rattle.records.specs.declared.views.ViewRead.the-variants.{At as ViewAt, Stop as ViewStop}
 use Rattle.records.proofs.Walk.{Walk, walk-begin, walk-all, walk-never, walk-onward}
 use Rattle.manifest.specs.Spans.{EffectiveFound}
-use Rattle.manifest.specs.declared.ranges.RangeSpan.{RangeSpan}
 use Rattle.incremental_progress.specs.Jobs.{outputs}
 use Rattle.incremental_progress.specs.Gaps.{pieces}
 use Rattle.incremental_progress.specs.Checks.{nothingLeft}

@@ -1,5 +1,5 @@
 // What of a view lies in the gaps between a job's durable intervals.
-use manifest::RangeSpan;
+use format::span::RangeSpan;
 use pieces::Piece;
 ghost use mathlib.Core.Path.{_≡_};
 ghost use mathlib.Core.Bool.{not};
@@ -27,7 +27,7 @@ pub fn has_piece<'a>(given: &'a [u8], e: RangeSpan, s: &'a [u8], gaps: &[usize],
     let mut g = 0;
     while g < n {
         let gap = progress::gap_at(s, gaps, n, g);
-        if is_piece(pieces::piece_in(given, e, s, gap)) {
+        if is_piece(pieces::piece_of(given, e, s, gap)) {
             return true;
         }
         g += 1;

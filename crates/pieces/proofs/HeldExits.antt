@@ -18,6 +18,7 @@ use Rattle.comparable_range.specs.Range.{Range}
 use Rattle.format.specs.Got.{Got, got, stop, andThen}
 use Rattle.format.specs.Key.{readBytes}
 use Rattle.format.specs.Laws.{Layout}
+use Rattle.format.specs.declared.span.RangeSpan.{RangeSpan}
 use Rattle.records.specs.Form.{Form, bytes, range, seq, named, optional}
 use Rattle.records.specs.Found.{isGot}
 use Rattle.records.specs.Values.{Table, View}
@@ -31,7 +32,6 @@ use Rattle.records.specs.declared.views.ViewRead.{ViewRead}
 use Rattle.records.specs.declared.views.ViewRead.the-variants.{At, Stop}
 use Rattle.records.proofs.RecordLayouts.{table-layout, view-layout}
 use Rattle.manifest.specs.Spans.{EffectiveFound}
-use Rattle.manifest.specs.declared.ranges.RangeSpan.{RangeSpan}
 use Rattle.drawn.specs.Bytes.{partOf}
 use Rattle.pieces.specs.Held.{TableEnds, HeldAt}
 use Rattle.pieces.specs.declared.held.ViewHeld.{ViewHeld}

@@ -2,18 +2,12 @@
 -- Assumes nothing.
 use mathlib.Core.Path.{_≡_, refl, sym, ap, _∙_}
 use mathlib.Core.Bool.{Bool, true, false, not, _&&_, false≢true}
-use mathlib.Core.List.{List, [], _∷_, map}
+use mathlib.Core.List.{[], _∷_, map}
 use Rattle.base.specs.Pick.{pick}
 use Rattle.key.specs.Order.{isEqual, atMost}
 use Rattle.key.specs.declared.Order.{Order}
 use Rattle.key.specs.declared.Order.the-variants.{Less, Equal, Greater}
-use Rattle.comparable_range.specs.Range.{Bound, Range, of, cmpBound, startSide, endSide, supplied, overlap, nonEmpty, intersectSides, intersect, chosen}
-use Prim.Native.Nat.{ℕ}
-use lib.ListN.{take, drop}
-use Rattle.key.specs.Order.{Key}
-use Rattle.comparable_range.specs.Range.{rangeOf}
-use Rattle.format.specs.Range.{rangeIn}
-use Rattle.format.specs.declared.range.BoundSpan.{BoundSpan}
+use Rattle.comparable_range.specs.Range.{Bound, Range, of, cmpBound, startSide, endSide, overlap, nonEmpty, intersectSides, intersect, chosen}
 use Rattle.comparable_range.specs.Cut.{Cut as Place, cmpCut, cutAtMost, cutBelow, _≼_, later, sooner, startCut, endCut}
 use Rattle.comparable_range.specs.declared.Side.{Side}
 use Rattle.comparable_range.specs.declared.Side.the-variants.{First, Second}
@@ -23,15 +17,13 @@ use Rattle.comparable_range.proofs.Cut.{cut-order-is-total, cut-below-not}
 use Rattle.comparable_range.proofs.Lattice.{≼-later-l, ≼-later-r, sooner-≼-l, sooner-≼-r}
 use Rattle.comparable_range.proofs.ByCuts.{cmp-start, cmp-end, non-empty-by-cuts, start-side-cut, end-side-cut}
 use Rattle.key.proofs.Linear.{cmp-self}
-use Rattle.key.specs.Laws.{Linear}
 use Rattle.key.specs.Order.{swap}
 use Rattle.records.specs.Values.{View}
 use Rattle.manifest.specs.Ranges.{effective}
 use Rattle.incremental_progress.specs.Intervals.{listed}
 use Rattle.incremental_progress.specs.Views.{sameRange}
-use Rattle.incremental_progress.specs.Entries.{Entry, whole, cut, pieceEntry}
+use Rattle.incremental_progress.specs.Entries.{whole, cut, pieceEntry}
 use Rattle.pieces.specs.Pieces.{allShown, wholeSides, pieceBy, pieceOf, entryOf}
-use Rattle.pieces.specs.declared.piece.Piece.{Piece}
 use Rattle.pieces.specs.declared.piece.Piece.the-variants.{Nothing, Whole, Cut}
 
 start-self : (a : Bound) → cmpBound true a a ≡ Equal
@@ -157,14 +149,3 @@ gap-before r g e f =
 pub ruleset apart-exits = (gap-past, gap-before)
 
 pub ruleset piece-exits = (piece-none, piece-end-cut, piece-own, piece-start-own, piece-start-cut)
-
--- ---- piece_in: the keys are parts of the slices
-pub piece-there :
-    (image job : List ℕ) (a b c d : BoundSpan) {x y z w : Key} {p : Piece}
-    → x ≡ take (a .len) (drop (a .at) image)
-    → y ≡ take (b .len) (drop (b .at) image)
-    → z ≡ take (c .len) (drop (c .at) job)
-    → w ≡ take (d .len) (drop (d .at) job)
-    → p ≡ pieceOf (rangeOf (a .kind) x (b .kind) y) (rangeOf (c .kind) z (d .kind) w)
-    → p ≡ pieceOf (rangeIn image a b) (rangeIn job c d)
-piece-there image job a b c d hx hy hz hw e = e ∙ rw (hx, hy, hz, hw)

@@ -13,6 +13,7 @@ use Rattle.comparable_range.specs.Range.{Range, supplied, intersect}
 use Rattle.comparable_range.specs.declared.Side.{Side}
 use Rattle.format.specs.Got.{got}
 use Rattle.format.specs.Range.{BoundInside, rangeIn, writeRange}
+use Rattle.format.specs.declared.span.RangeSpan.{RangeSpan}
 use Rattle.records.specs.Form.{readMany, writeMany}
 use Rattle.records.specs.Found.{isGot, valuesOf}
 use Rattle.records.specs.Values.{View}
@@ -21,7 +22,6 @@ use Rattle.records.specs.Spans.{viewIn}
 use Rattle.records.proofs.Many.{Ahead}
 use Rattle.records.proofs.Walk.{Walk, walk-begin, walk-all, walk-here, walk-ahead, walk-onward}
 use Rattle.manifest.specs.Ranges.{effective}
-use Rattle.manifest.specs.declared.ranges.RangeSpan.{RangeSpan}
 use Rattle.incremental_progress.specs.Intervals.{listed}
 use Rattle.incremental_progress.specs.Draws.{used-up, supply, draw, drawnView, fillAll}
 use Rattle.incremental_progress.specs.Entries.{Entry, pieceEntry}

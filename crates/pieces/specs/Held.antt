@@ -9,8 +9,8 @@ use Rattle.records.specs.Values.{Table, View}
 use Rattle.records.specs.Layouts.{table, view}
 use Rattle.records.specs.Spans.{viewIn, ViewInside}
 use Rattle.format.specs.Range.{BoundInside}
+use Rattle.format.specs.declared.span.RangeSpan.{RangeSpan}
 use Rattle.manifest.specs.Spans.{EffectiveFound}
-use Rattle.manifest.specs.declared.ranges.RangeSpan.{RangeSpan}
 use Rattle.progress.specs.Tables.{Table as GapTable}
 use Rattle.pieces.specs.declared.held.ViewHeld.{ViewHeld}
 

@@ -1,7 +1,7 @@
 // A view that is there, with its effective range and the place past its table.
 use comparable_range::Kind;
 use format::BoundSpan;
-use manifest::RangeSpan;
+use format::span::RangeSpan;
 use manifest::effective;
 use records::TableRead;
 use records::TableSpan;

@@ -2,13 +2,12 @@
 use crate::held::ViewHeld;
 use crate::held::view_held;
 use crate::piece::Piece;
-use crate::piece::piece_in;
-use crate::sides::key_by;
-use crate::sides::kind_by;
+use crate::piece::piece_of;
 use comparable_range::Side;
 use drawn::Sized;
+use format::span;
+use format::span::RangeSpan;
 use incremental_progress::Draw;
-use manifest::RangeSpan;
 ghost use mathlib.Core.Path.{_≡_};
 ghost use mathlib.Core.List.{flatMap};
 ghost use Prim.Native.Nat.{_≤_, _+_};
@@ -42,16 +41,13 @@ fn piece_len<'a>(
     ensures { λ r. ⌜ r ≡ length (writeRange (supplied (rangeIn (now (image .entry)) (e .start) (e .end)) (rangeIn (now (job .entry)) (g .start) (g .end)) a b)) ⌝ }
     ensures { λ r. ⌜ r ≤ 131077 ⌝ }
 {
-    let es = e.start;
-    let ee = e.end;
-    let gs = g.start;
-    let ge = g.end;
-    drawn::range_len(
-        kind_by(a, es, gs),
-        key_by(a, image, es, job, gs),
-        kind_by(b, ee, ge),
-        key_by(b, image, ee, job, ge),
-    )
+    let start = span::bound_of(a, e.start, g.start);
+    let end = span::bound_of(b, e.end, g.end);
+    let s = format::key_of(span::slice_of(a, image, job), start);
+    let t = format::key_of(span::slice_of(b, image, job), end);
+    let ks = start.kind;
+    let ke = end.kind;
+    drawn::range_len(ks, s, ke, t)
 }
 
 // A range of a view, which stands at a place of image, under a new id; its draw begins at a place of the supply.
@@ -98,7 +94,7 @@ fn one_sized<'a>(
     ensures { λ r. ⌜ OneMost r ⌝ }
 {
     let past = h.past;
-    match piece_in(image, h.range, job, gap) {
+    match piece_of(image, h.range, job, gap) {
         Piece::Nothing => Sized::At {
             views: 0,
             bytes: 0,

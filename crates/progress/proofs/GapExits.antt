@@ -18,7 +18,7 @@ use Rattle.format.specs.Got.{Got, got, stop, andThen}
 use Rattle.format.specs.Number.{readNumber}
 use Rattle.format.specs.Range.{boundIn, BoundInside}
 use Rattle.format.specs.declared.range.BoundSpan.{BoundSpan}
-use Rattle.manifest.specs.declared.ranges.RangeSpan.{RangeSpan}
+use Rattle.format.specs.declared.span.RangeSpan.{RangeSpan}
 use Rattle.records.specs.Form.{Form, number, seq, taken, readMany}
 use Rattle.records.specs.Found.{isGot, valuesOf}
 use Rattle.records.specs.Values.{Part}

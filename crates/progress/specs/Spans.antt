@@ -13,10 +13,10 @@ use Rattle.comparable_range.specs.declared.Kind.the-variants.{Unbounded, Includ
 use Rattle.format.specs.Got.{Got, got, stop}
 use Rattle.format.specs.Range.{kindNumber, boundIn, rangeIn, BoundInside}
 use Rattle.format.specs.declared.range.BoundSpan.{BoundSpan}
+use Rattle.format.specs.declared.span.RangeSpan.{RangeSpan}
 use Rattle.records.specs.Found.{valuesOf}
 use Rattle.records.specs.Values.{Table, Part, Job}
 use Rattle.records.specs.Spans.{ifSo, keyIn}
-use Rattle.manifest.specs.declared.ranges.RangeSpan.{RangeSpan}
 use Rattle.incremental_progress.specs.Intervals.{Interval, toRange}
 use Rattle.incremental_progress.specs.Parts.{keyOf, lastWritten, upToKey, durable, intervals}
 use Rattle.incremental_progress.specs.Gaps.{gaps}

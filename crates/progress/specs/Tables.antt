@@ -7,7 +7,7 @@ use lib.ListN.{length, getD, drop}
 use Rattle.comparable_range.specs.Range.{Range}
 use Rattle.format.specs.Range.{kindOf, rangeIn, BoundInside}
 use Rattle.format.specs.declared.range.BoundSpan.{BoundSpan}
-use Rattle.manifest.specs.declared.ranges.RangeSpan.{RangeSpan}
+use Rattle.format.specs.declared.span.RangeSpan.{RangeSpan}
 
 -- three numbers of a list, from a place on, as a bound
 abbrev pub spanAt : ℕ → List ℕ → BoundSpan

@@ -1,7 +1,7 @@
 // The table of gaps: six numbers a gap, kind, place and length of its start and of its end.
 use comparable_range::Kind;
 use format::BoundSpan;
-use manifest::RangeSpan;
+use format::span::RangeSpan;
 ghost use mathlib.Core.Path.{_≡_};
 ghost use Prim.Native.Nat.{_≤_, _<_, _+_, _*_};
 ghost use lib.ListN.{length};

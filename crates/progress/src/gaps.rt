@@ -5,7 +5,7 @@ use crate::parts::Durable;
 use crate::parts::part_progress;
 use comparable_range::Kind;
 use format::BoundSpan;
-use manifest::RangeSpan;
+use format::span::RangeSpan;
 use records::JobRead;
 ghost use Prim.Native.Nat.{_≤_};
 ghost use lib.Dec.{T};

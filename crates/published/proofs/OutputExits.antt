@@ -11,13 +11,12 @@ use lib.Dec.{T}
 use Rattle.base.specs.Pick.{pick}
 use Rattle.key.specs.Order.{Key, cmpKey, isEqual}
 use Rattle.key.specs.declared.Order.{Order}
-use Rattle.comparable_range.specs.Range.{rangeOf, nonEmpty, overlap, intersectSides, meets}
+use Rattle.comparable_range.specs.Range.{nonEmpty, overlap}
 use Rattle.comparable_range.specs.declared.Kind.the-variants.{Unbounded}
-use Rattle.comparable_range.specs.declared.Sides.{Sides}
-use Rattle.comparable_range.proofs.Unions.{meets-is}
 use Rattle.format.specs.Got.{Got, stop}
 use Rattle.format.specs.Range.{rangeIn, BoundInside}
 use Rattle.format.specs.declared.range.BoundSpan.{BoundSpan}
+use Rattle.format.specs.declared.span.RangeSpan.{RangeSpan}
 use Rattle.records.specs.Found.{isGot}
 use Rattle.records.specs.Values.{Table}
 use Rattle.records.specs.Layouts.{table}
@@ -28,7 +27,6 @@ use Rattle.records.specs.declared.tables.TableRead.the-variants.{At, Stop}
 use Rattle.records.specs.declared.views.ViewSpan.{ViewSpan}
 use Rattle.manifest.specs.Ranges.{own, effective}
 use Rattle.manifest.specs.Spans.{EffectiveFound}
-use Rattle.manifest.specs.declared.ranges.RangeSpan.{RangeSpan}
 use Rattle.incremental_progress.specs.Intervals.{Interval, toRange}
 use Rattle.incremental_progress.specs.Parts.{isKey}
 use Rattle.incremental_progress.specs.Entries.{outputEntries}
@@ -68,18 +66,6 @@ module _ (s : List ℕ) (t : TableSpan) where
   own-found f = record { meaning = f .meaning; start = f .start; end = f .end }
 
 pub ruleset own-exits = (whole-inside, own-found)
-
--- ---- ranges_meet
-pub meet-is :
-    (s : List ℕ) (a b c d : BoundSpan) {x y z w : Key} {o : Sides} {r : Bool}
-    → x ≡ take (a .len) (drop (a .at) s)
-    → y ≡ take (b .len) (drop (b .at) s)
-    → z ≡ take (c .len) (drop (c .at) s)
-    → w ≡ take (d .len) (drop (d .at) s)
-    → o ≡ intersectSides (rangeOf (a .kind) x (b .kind) y) (rangeOf (c .kind) z (d .kind) w)
-    → r ≡ meets o
-    → r ≡ nonEmpty (overlap (rangeIn s a b) (rangeIn s c d))
-meet-is s a b c d ex ey ez ew eo er = er ∙ ap meets eo ∙ rw (ex, ey, ez, ew) (meets-is (rangeIn s a b) (rangeIn s c d))
 
 -- ---- some_inside
 module _ (s : List ℕ) (t : TableSpan) (l : Limits) (h : LimitsInside s l) where

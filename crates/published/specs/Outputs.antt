@@ -9,12 +9,12 @@ use Rattle.key.specs.Order.{Key}
 use Rattle.comparable_range.specs.Range.{nonEmpty, overlap}
 use Rattle.format.specs.Got.{got}
 use Rattle.format.specs.Range.{rangeIn, BoundInside}
+use Rattle.format.specs.declared.span.RangeSpan.{RangeSpan}
 use Rattle.records.specs.Values.{Table}
 use Rattle.records.specs.Layouts.{table}
 use Rattle.records.specs.Spans.{keyIn, tableIn, TableInside}
 use Rattle.records.specs.declared.tables.TableSpan.{TableSpan}
 use Rattle.manifest.specs.Ranges.{own}
-use Rattle.manifest.specs.declared.ranges.RangeSpan.{RangeSpan}
 use Rattle.incremental_progress.specs.Intervals.{Interval, toRange}
 use Rattle.incremental_progress.specs.Parts.{isKey, identity}
 use Rattle.incremental_progress.specs.Entries.{Entry, whole, cut, outputEntries}

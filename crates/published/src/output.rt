@@ -1,8 +1,7 @@
 // An output of a part, and what of it is published.
 use comparable_range::Kind;
-use comparable_range::Sides;
 use format::BoundSpan;
-use manifest::RangeSpan;
+use format::span::RangeSpan;
 use manifest::effective;
 use records::TableRead;
 use records::TableSpan;
@@ -11,8 +10,8 @@ ghost use mathlib.Core.Path.{_≡_};
 ghost use Prim.Native.Nat.{_≤_};
 ghost use lib.Dec.{T};
 ghost use lib.ListN.{length, drop};
-ghost use Rattle.comparable_range.specs.Range.{meets, nonEmpty, overlap};
-ghost use Rattle.format.specs.Range.{BoundInside, rangeIn};
+ghost use Rattle.comparable_range.specs.Range.{nonEmpty, overlap};
+ghost use Rattle.format.specs.Range.{BoundInside};
 ghost use Rattle.records.specs.Found.{isGot};
 ghost use Rattle.records.specs.Layouts.{table};
 ghost use Rattle.records.specs.Spans.{keyIn, tableIn, TableInside};
@@ -94,43 +93,15 @@ fn own_range(s: &[u8], t: TableSpan) -> RangeSpan
     )
 }
 
-fn found(sides: Sides) -> bool
-    ensures { λ r. ⌜ r ≡ meets sides ⌝ }
-{
-    match sides {
-        Sides::Nothing => false,
-        Sides::From(_, _) => true,
-    }
-}
-
-// Whether two ranges have a key in common: from a to b, and from c to d.
-fn ranges_meet(s: &[u8], a: BoundSpan, b: BoundSpan, c: BoundSpan, d: BoundSpan) -> bool
-    requires { ⌜ BoundInside (now s) a ⌝ ∗ ⌜ BoundInside (now s) b ⌝ ∗ ⌜ BoundInside (now s) c ⌝ ∗ ⌜ BoundInside (now s) d ⌝ }
-    ensures { λ r. ⌜ r ≡ nonEmpty (overlap (rangeIn (now (s .entry)) a b) (rangeIn (now (s .entry)) c d)) ⌝ }
-{
-    let ka = a.kind;
-    let kb = b.kind;
-    let kc = c.kind;
-    let kd = d.kind;
-    found(comparable_range::intersect(
-        ka,
-        format::key_of(s, a),
-        kb,
-        format::key_of(s, b),
-        kc,
-        format::key_of(s, c),
-        kd,
-        format::key_of(s, d),
-    ))
-}
-
 // Whether something of an output lies in the interval.
 fn some_inside(s: &[u8], t: TableSpan, l: Limits) -> bool
     requires { ⌜ TableInside (now s) t ⌝ ∗ ⌜ LimitsInside (now s) l ⌝ }
     ensures { λ r. ⌜ r ≡ nonEmpty (overlap (own (tableIn (now (s .entry)) t)) (toRange (intervalIn (now (s .entry)) (l .start) (l .end)))) ⌝ }
 {
     let own = own_range(s, t);
-    ranges_meet(s, own.start, own.end, l.start, l.end)
+    let start = l.start;
+    let end = l.end;
+    format::span::meets(s, own, s, RangeSpan { start, end })
 }
 
 // Whether an output's last key is the key of a bound.

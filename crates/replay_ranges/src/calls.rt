@@ -3,9 +3,10 @@ use bilqarush::Compared;
 use bilqarush::Joined;
 use bilqarush::Point;
 use bilqarush::Tested;
-use bytes_range::span::Supplied;
 use comparable_range::Side;
 use format::BoundSpan;
+use format::span;
+use format::span::Supplied;
 use replay::answer;
 use replay::answer::Place;
 use replay::buffer;
@@ -107,13 +108,9 @@ fn bound_in(answer: &[u8], place: Place, s: &[u8], bound: BoundSpan) -> Place {
     place
 }
 
-fn bound_of(answer: &[u8], place: Place, a: &[u8], b: &[u8], x: Supplied) -> Place {
+fn bound_of<'a>(answer: &[u8], place: Place, a: &'a [u8], b: &'a [u8], x: Supplied) -> Place {
     let side = x.side;
-    let bound = x.bound;
-    match side {
-        Side::First => bound_in(answer, place, a, bound),
-        Side::Second => bound_in(answer, place, b, bound),
-    }
+    bound_in(answer, place, span::slice_of(side, a, b), x.bound)
 }
 
 // The place of a bound's key in the range that supplied it.
@@ -126,13 +123,13 @@ fn place_of(answer: &[u8], place: Place, x: Supplied) -> Place {
     place
 }
 
-fn range_is(answer: &[u8], a: &[u8], b: &[u8], start: Supplied, end: Supplied) -> bool {
+fn range_is<'a>(answer: &[u8], a: &'a [u8], b: &'a [u8], start: Supplied, end: Supplied) -> bool {
     let front = range_front(answer, start, end);
     let keys = bound_of(answer, bound_of(answer, front, a, b, start), a, b, end);
     answer::is_end(answer, place_of(answer, place_of(answer, keys, start), end))
 }
 
-fn joined_is(answer: &[u8], a: &[u8], b: &[u8], j: Joined) -> bool {
+fn joined_is<'a>(answer: &[u8], a: &'a [u8], b: &'a [u8], j: Joined) -> bool {
     match j {
         Joined::Stop(n) => answer::is_stop(answer, n),
         Joined::Nothing => answer::is_value(answer, 0),
@@ -149,13 +146,9 @@ fn key_in(key: &[u8], s: &[u8], bound: BoundSpan) -> bool {
 }
 
 // Whether a key is that of a bound, or empty where the bound has none.
-fn key_is(key: &[u8], a: &[u8], b: &[u8], x: Supplied) -> bool {
+fn key_is<'a>(key: &[u8], a: &'a [u8], b: &'a [u8], x: Supplied) -> bool {
     let side = x.side;
-    let bound = x.bound;
-    match side {
-        Side::First => key_in(key, a, bound),
-        Side::Second => key_in(key, b, bound),
-    }
+    key_in(key, span::slice_of(side, a, b), x.bound)
 }
 
 // Whether a number is the one that is due, with no key.

@@ -20,8 +20,8 @@ returns c = search (needs, range-exits)
 passes-requires : tie.Need-passes-requires
 passes-requires c κs = search (needs, range-exits)
 
-contains-requires : tie.Need-contains-requires
-contains-requires c κs = search (needs, range-exits)
+holds-requires : tie.Need-holds-requires
+holds-requires c κs = search (needs, range-exits)
 
 returns-2 : tie.Need-returns-2
 returns-2 c = search (needs, range-exits)
@@ -41,7 +41,7 @@ contains-spec =
     enum-known-start
     returns
     passes-requires
-    contains-requires
+    holds-requires
     returns-2
     returns-3
     returns-4)

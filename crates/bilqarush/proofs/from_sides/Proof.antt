@@ -11,11 +11,11 @@ enum-told c = search (needs, joined-exits)
 enum-known-sides : tie.Need-enum-known-sides
 enum-known-sides c = search (needs, joined-exits)
 
-supplied-requires : tie.Need-supplied-requires
-supplied-requires c κs = search (needs, joined-exits)
+bound-of-requires : tie.Need-bound-of-requires
+bound-of-requires c κs = search (needs, joined-exits)
 
-supplied-requires-2 : tie.Need-supplied-requires-2
-supplied-requires-2 c κs = search (needs, joined-exits)
+bound-of-requires-2 : tie.Need-bound-of-requires-2
+bound-of-requires-2 c κs = search (needs, joined-exits)
 
 returns : tie.Need-returns
 returns c = search (needs, joined-exits)
@@ -26,4 +26,4 @@ returns-2 c = search (needs, joined-exits)
 pub from-sides-spec : {M : Type 1} → statement M
 from-sides-spec =
     tie.close
-    (tie.spec enum-told enum-known-sides supplied-requires supplied-requires-2 returns returns-2)
+    (tie.spec enum-told enum-known-sides bound-of-requires bound-of-requires-2 returns returns-2)

@@ -11,8 +11,8 @@ ranges-given-requires c κs = search (needs, join-exits)
 enum-known-n : tie.Need-enum-known-n
 enum-known-n c = search (needs, join-exits)
 
-enum-known-s : tie.Need-enum-known-s
-enum-known-s c = search (needs, join-exits)
+enum-known-r : tie.Need-enum-known-r
+enum-known-r c = search (needs, join-exits)
 
 intersect-requires : tie.Need-intersect-requires
 intersect-requires c κs = search (needs, join-exits)
@@ -32,7 +32,7 @@ intersect-spec =
     (tie.spec
     ranges-given-requires
     enum-known-n
-    enum-known-s
+    enum-known-r
     intersect-requires
     from-sides-requires
     returns

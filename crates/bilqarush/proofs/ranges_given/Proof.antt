@@ -1,6 +1,6 @@
 -- `bilqarush::ranges_given` meets its contract, check by check.
 -- Assumes nothing.
-use Rattle.bilqarush.proofs.Pairs.{pair-exits}
+use Rattle.bilqarush.proofs.Pairs.{pair-exits, both-pass}
 use borrow.Author.Needs.{needs}
 use Rattle.bilqarush.proofs.ranges_given.Statement.{statement}
 use Rattle.bilqarush.proofs.ranges_given.Tie as tie
@@ -30,7 +30,8 @@ passes-requires-2 : tie.Need-passes-requires-2
 passes-requires-2 c κs = search (needs, pair-exits)
 
 returns : tie.Need-returns
-returns c = search (needs, pair-exits)
+returns c =
+    both-pass (c .before .before .before .before .before .before .before .before .before .before .before .range-whole .ensures) (c .before .before .before .before .before .before .before .range-whole2 .ensures) (c .before .before .before .before .before .before .before .before .before .s .given .1) (c .before .before .before .before .before .t .given .1) (c .before .before .before .passes .ensures) (c .before .before .if1 .taken) (c .before .passes2 .ensures) (c .if2 .taken)
 
 returns-2 : tie.Need-returns-2
 returns-2 c = search (needs, pair-exits)

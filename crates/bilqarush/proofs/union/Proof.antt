@@ -11,8 +11,8 @@ ranges-given-requires c κs = search (needs, join-exits)
 enum-known-n : tie.Need-enum-known-n
 enum-known-n c = search (needs, join-exits)
 
-enum-known-s : tie.Need-enum-known-s
-enum-known-s c = search (needs, join-exits)
+enum-known-r : tie.Need-enum-known-r
+enum-known-r c = search (needs, join-exits)
 
 union-requires : tie.Need-union-requires
 union-requires c κs = search (needs, join-exits)
@@ -32,7 +32,7 @@ union-spec =
     (tie.spec
     ranges-given-requires
     enum-known-n
-    enum-known-s
+    enum-known-r
     union-requires
     from-sides-requires
     returns

@@ -5,14 +5,20 @@ use borrow.Author.Needs.{needs}
 use Rattle.compactor_state.proofs.parts.output_between.Statement.{statement}
 use Rattle.compactor_state.proofs.parts.output_between.Tie as tie
 
-in-order-requires : tie.Need-in-order-requires
-in-order-requires c κs = search needs
+compare-requires : tie.Need-compare-requires
+compare-requires c κs = search (needs, output-exits)
+
+at-most-requires : tie.Need-at-most-requires
+at-most-requires c κs = search (needs, output-exits)
 
 last-bound-requires : tie.Need-last-bound-requires
-last-bound-requires c κs = search needs
+last-bound-requires c κs = search (needs, output-exits)
 
-in-order-requires-2 : tie.Need-in-order-requires-2
-in-order-requires-2 c κs = search (needs, output-exits)
+compare-requires-2 : tie.Need-compare-requires-2
+compare-requires-2 c κs = search (needs, output-exits)
+
+at-most-requires-2 : tie.Need-at-most-requires-2
+at-most-requires-2 c κs = search (needs, output-exits)
 
 returns : tie.Need-returns
 returns c = search (needs, output-exits)
@@ -27,9 +33,11 @@ pub output-between-spec : {M : Type 1} → statement M
 output-between-spec =
     tie.close
     (tie.spec
-    in-order-requires
+    compare-requires
+    at-most-requires
     last-bound-requires
-    in-order-requires-2
+    compare-requires-2
+    at-most-requires-2
     returns
     returns-2
     returns-3)

@@ -8,14 +8,14 @@ use Rattle.kept.proofs.piece.keep_piece.Reads as reads
 use Rattle.kept.proofs.piece.keep_piece.Lts as lts
 use Rattle.kept.proofs.piece.keep_cut.Reads as keep-cut-reads
 use Rattle.kept.proofs.piece.put_three.Reads as put-three-reads
-use Rattle.pieces.proofs.piece_in.Reads as piece-in-reads
+use Rattle.pieces.proofs.piece_of.Reads as piece-of-reads
 use Rattle.progress.proofs.gap_at.Reads as gap-at-reads
 
 gap-at-requires : tie.Need-gap-at-requires
 gap-at-requires c κs = search needs
 
-piece-in-requires : tie.Need-piece-in-requires
-piece-in-requires c κs = search needs
+piece-of-requires : tie.Need-piece-of-requires
+piece-of-requires c κs = search needs
 
 enum-told : tie.Need-enum-told
 enum-told c = search needs
@@ -52,7 +52,7 @@ keep-piece-spec =
     tie.close
     (tie.spec
     gap-at-requires
-    piece-in-requires
+    piece-of-requires
     enum-told
     enum-told-2
     put-three-requires

@@ -5,14 +5,8 @@ use borrow.Author.Needs.{needs}
 use Rattle.manifest.proofs.checks.order_fault.Statement.{statement}
 use Rattle.manifest.proofs.checks.order_fault.Tie as tie
 
-key-of-requires : tie.Need-key-of-requires
-key-of-requires c κs = search (needs, order-exits)
-
-key-of-requires-2 : tie.Need-key-of-requires-2
-key-of-requires-2 c κs = search (needs, order-exits)
-
-cmp-bound-requires : tie.Need-cmp-bound-requires
-cmp-bound-requires c κs = search (needs, order-exits)
+compare-requires : tie.Need-compare-requires
+compare-requires c κs = search (needs, order-exits)
 
 at-most-requires : tie.Need-at-most-requires
 at-most-requires c κs = search (needs, order-exits)
@@ -24,12 +18,4 @@ returns-2 : tie.Need-returns-2
 returns-2 c = search (needs, order-exits)
 
 pub order-fault-spec : {M : Type 1} → statement M
-order-fault-spec =
-    tie.close
-    (tie.spec
-    key-of-requires
-    key-of-requires-2
-    cmp-bound-requires
-    at-most-requires
-    returns
-    returns-2)
+order-fault-spec = tie.close (tie.spec compare-requires at-most-requires returns returns-2)

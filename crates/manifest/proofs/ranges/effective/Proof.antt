@@ -14,8 +14,14 @@ own-end-requires c κs = search (needs, effective-exits)
 greater-start-requires : tie.Need-greater-start-requires
 greater-start-requires c κs = search (needs, effective-exits)
 
+bound-of-requires : tie.Need-bound-of-requires
+bound-of-requires c κs = search (needs, effective-exits)
+
 lesser-end-requires : tie.Need-lesser-end-requires
 lesser-end-requires c κs = search (needs, effective-exits)
+
+bound-of-requires-2 : tie.Need-bound-of-requires-2
+bound-of-requires-2 c κs = search (needs, effective-exits)
 
 returns : tie.Need-returns
 returns c = search (needs, effective-exits)
@@ -30,6 +36,8 @@ effective-spec =
     own-start-requires
     own-end-requires
     greater-start-requires
+    bound-of-requires
     lesser-end-requires
+    bound-of-requires-2
     returns
     returns-2)

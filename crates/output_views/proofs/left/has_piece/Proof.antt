@@ -18,8 +18,8 @@ loop-holds c = search (needs, gap-exits)
 gap-at-requires : tie.Need-gap-at-requires Inv-loop μ-loop
 gap-at-requires c κs = search (needs, gap-exits)
 
-piece-in-requires : tie.Need-piece-in-requires Inv-loop μ-loop
-piece-in-requires c κs = search (needs, gap-exits)
+piece-of-requires : tie.Need-piece-of-requires Inv-loop μ-loop
+piece-of-requires c κs = search (needs, gap-exits)
 
 is-piece-requires : tie.Need-is-piece-requires Inv-loop μ-loop
 is-piece-requires c κs = search (needs, gap-exits)
@@ -47,7 +47,7 @@ has-piece-spec =
     μ-loop
     loop-holds
     gap-at-requires
-    piece-in-requires
+    piece-of-requires
     is-piece-requires
     returns
     add-g

@@ -1,4 +1,4 @@
--- `pieces::piece::piece_met` meets its contract.
+-- `pieces::piece::piece_met` meets its contract, by the sides.
 -- Assumes nothing.
 use Rattle.pieces.proofs.OnePiece.{piece-exits}
 use borrow.Author.Needs.{needs}
@@ -26,8 +26,8 @@ enum-told-4 c = search (needs, piece-exits)
 enum-told-5 : tie.Need-enum-told-5
 enum-told-5 c = search (needs, piece-exits)
 
-cmp-bound-requires : tie.Need-cmp-bound-requires
-cmp-bound-requires c κs = search (needs, piece-exits)
+compare-requires : tie.Need-compare-requires
+compare-requires c κs = search (needs, piece-exits)
 
 is-equal-requires : tie.Need-is-equal-requires
 is-equal-requires c κs = search (needs, piece-exits)
@@ -58,7 +58,7 @@ piece-met-spec =
     enum-told-3
     enum-told-4
     enum-told-5
-    cmp-bound-requires
+    compare-requires
     is-equal-requires
     returns
     returns-2

@@ -5,11 +5,11 @@ use borrow.Author.Needs.{needs}
 use Rattle.pieces.proofs.piece.piece_of.Statement.{statement}
 use Rattle.pieces.proofs.piece.piece_of.Tie as tie
 
-non-empty-requires : tie.Need-non-empty-requires
-non-empty-requires c κs = search (needs, apart-exits)
+passes-requires : tie.Need-passes-requires
+passes-requires c κs = search (needs, apart-exits)
 
-non-empty-requires-2 : tie.Need-non-empty-requires-2
-non-empty-requires-2 c κs = search (needs, apart-exits)
+passes-requires-2 : tie.Need-passes-requires-2
+passes-requires-2 c κs = search (needs, apart-exits)
 
 piece-met-requires : tie.Need-piece-met-requires
 piece-met-requires c κs = search (needs, apart-exits)
@@ -26,10 +26,4 @@ returns-3 c = search (needs, apart-exits)
 pub piece-of-spec : {M : Type 1} → statement M
 piece-of-spec =
     tie.close
-    (tie.spec
-    non-empty-requires
-    non-empty-requires-2
-    piece-met-requires
-    returns
-    returns-2
-    returns-3)
+    (tie.spec passes-requires passes-requires-2 piece-met-requires returns returns-2 returns-3)

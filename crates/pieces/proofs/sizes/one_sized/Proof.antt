@@ -6,11 +6,11 @@ use Rattle.pieces.proofs.sizes.one_sized.Statement.{statement}
 use Rattle.pieces.proofs.sizes.one_sized.Tie as tie
 use Rattle.pieces.proofs.sizes.one_sized.Reads as reads
 use Rattle.pieces.proofs.sizes.one_sized.Lts as lts
-use Rattle.pieces.proofs.piece.piece_in.Reads as piece-in-reads
+use Rattle.pieces.proofs.piece.piece_of.Reads as piece-of-reads
 use Rattle.pieces.proofs.sizes.cut_sized.Reads as cut-sized-reads
 
-piece-in-requires : tie.Need-piece-in-requires
-piece-in-requires c κs = search needs
+piece-of-requires : tie.Need-piece-of-requires
+piece-of-requires c κs = search needs
 
 enum-told : tie.Need-enum-told
 enum-told c = search needs
@@ -40,7 +40,7 @@ pub one-sized-spec : {M : Type 1} → statement M
 one-sized-spec =
     tie.close
     (tie.spec
-    piece-in-requires
+    piece-of-requires
     enum-told
     enum-told-2
     sub-t13

@@ -1,29 +1,30 @@
--- `pieces::sizes::piece_len` meets its contract.
+-- `pieces::sizes::piece_len` meets its contract: each bound is the one of its side.
 -- Assumes nothing.
 use Rattle.pieces.proofs.LenExits.{len-exits}
 use borrow.Author.Needs.{needs}
 use Rattle.pieces.proofs.sizes.piece_len.Statement.{statement}
 use Rattle.pieces.proofs.sizes.piece_len.Tie as tie
-use Rattle.pieces.proofs.sizes.piece_len.Reads as reads
-use Rattle.pieces.proofs.sizes.piece_len.Lts as lts
-use Rattle.drawn.proofs.range_len.Reads as range-len-reads
-use Rattle.pieces.proofs.sides.key_by.Reads as key-by-reads
-use Rattle.pieces.proofs.sides.kind_by.Reads as kind-by-reads
 
-kind-by-requires : tie.Need-kind-by-requires
-kind-by-requires c κs = search needs
+bound-of-requires : tie.Need-bound-of-requires
+bound-of-requires c κs = search (needs, len-exits)
 
-key-by-requires : tie.Need-key-by-requires
-key-by-requires c κs = search needs
+bound-of-requires-2 : tie.Need-bound-of-requires-2
+bound-of-requires-2 c κs = search (needs, len-exits)
 
-kind-by-requires-2 : tie.Need-kind-by-requires-2
-kind-by-requires-2 c κs = search needs
+slice-of-requires : tie.Need-slice-of-requires
+slice-of-requires c κs = search (needs, len-exits)
 
-key-by-requires-2 : tie.Need-key-by-requires-2
-key-by-requires-2 c κs = search needs
+key-of-requires : tie.Need-key-of-requires
+key-of-requires c κs = search (needs, len-exits)
+
+slice-of-requires-2 : tie.Need-slice-of-requires-2
+slice-of-requires-2 c κs = search (needs, len-exits)
+
+key-of-requires-2 : tie.Need-key-of-requires-2
+key-of-requires-2 c κs = search (needs, len-exits)
 
 range-len-requires : tie.Need-range-len-requires
-range-len-requires c κs = search needs
+range-len-requires c κs = search (needs, len-exits)
 
 returns : tie.Need-returns
 returns c = search (needs, len-exits)
@@ -32,9 +33,11 @@ pub piece-len-spec : {M : Type 1} → statement M
 piece-len-spec =
     tie.close
     (tie.spec
-    kind-by-requires
-    key-by-requires
-    kind-by-requires-2
-    key-by-requires-2
+    bound-of-requires
+    bound-of-requires-2
+    slice-of-requires
+    key-of-requires
+    slice-of-requires-2
+    key-of-requires-2
     range-len-requires
     returns)

@@ -1,9 +1,9 @@
--- `bytes_range::supplied_key` meets its contract.
+-- `format::span::supplied_key` meets its contract, by the side of a bound that has a key.
 -- Assumes nothing.
-use Rattle.bytes_range.proofs.Spans.{supply-exits}
+use Rattle.format.proofs.Spans.{supply-exits}
 use borrow.Author.Needs.{needs}
-use Rattle.bytes_range.proofs.span.supplied_key.Statement.{statement}
-use Rattle.bytes_range.proofs.span.supplied_key.Tie as tie
+use Rattle.format.proofs.span.supplied_key.Statement.{statement}
+use Rattle.format.proofs.span.supplied_key.Tie as tie
 
 keyed-requires : tie.Need-keyed-requires
 keyed-requires c κs = search (needs, supply-exits)

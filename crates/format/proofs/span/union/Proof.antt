@@ -1,9 +1,9 @@
--- `bytes_range::union` meets its contract.
+-- `format::span::union` meets its contract: it says of the ranges what it says of their kinds and keys.
 -- Assumes nothing.
-use Rattle.bytes_range.proofs.Spans.{span-exits}
+use Rattle.format.proofs.Spans.{span-exits}
 use borrow.Author.Needs.{needs}
-use Rattle.bytes_range.proofs.span.union.Statement.{statement}
-use Rattle.bytes_range.proofs.span.union.Tie as tie
+use Rattle.format.proofs.span.union.Statement.{statement}
+use Rattle.format.proofs.span.union.Tie as tie
 
 key-of-requires : tie.Need-key-of-requires
 key-of-requires c κs = search (needs, span-exits)
