@@ -1,5 +1,6 @@
 /*
- * Bilqarush: ranges of byte keys, images of runs, and the commit of a compaction, after slatedb 0.18.0.
+ * Bilqarush: ranges of byte keys, images of runs, lookups in them and in indexes, and the commit of a compaction, after
+ * slatedb 0.18.0.
  *
  * Link libbilqarush_c.a, which `rt staticlib bilqarush_c` writes to target/staticlib, for x86-64 Linux. Of the C library it
  * needs memcpy and memset alone. What each call answers is proved for every input; docs/PROMISES.md names the definitions.
@@ -36,8 +37,9 @@
  * BUFFERS
  *
  * A slice of bytes is a pointer and then a length. Pointers are never NULL, even where the length is 0: a pointer to any
- * byte will do there. Slices that are only read may overlap each other. What is written (`out` and the slots `order`, `is`
- * and `written`) overlaps nothing else that the call is given, and has a value before the call.
+ * byte will do there. Slices that are only read may overlap each other. What is written (`out` and the slots `order`, `is`,
+ * `written`, `count`, `found`, `partition`, `start` and `end`: all that is not const) overlaps nothing else that the call is
+ * given, and has a value before the call.
  *
  * After a stop every byte and every slot is as it was. After 0 a call that has `out` has written the first *written bytes
  * of it; the bytes past them are as they were. What is read is never written. No call allocates, keeps a pointer or keeps
@@ -56,6 +58,7 @@
  *   image   run count 8; each run: id 32, view count 12, padding 4, views
  *   job     destination 32, source count 8, source ids 32 each, part count 8; each part: range, completed flag 1, output
  *           count 15, tables
+ *   index   block count 16; each block: offset 64, first key
  *
  * Kinds are 0 unbounded, 1 included, 2 excluded. Ids have 48 bits of time and 80 random bits.
  *
@@ -86,13 +89,13 @@
 #define BILQARUSH_INCLUDED 1
 #define BILQARUSH_EXCLUDED 2
 
-/* Which of two ranges supplied a bound. */
+/* Which of two slices supplied a bound. */
 #define BILQARUSH_FIRST 1
 #define BILQARUSH_SECOND 2
 
 /* Lengths of `out` that are always enough. */
 #define BILQARUSH_POINT_LEN 17       /* as_point */
-#define BILQARUSH_JOINED_LEN 37      /* intersect, union */
+#define BILQARUSH_JOINED_LEN 37      /* intersect, union, compacted_intersection, calculate_view_range */
 #define BILQARUSH_VIEW_RANGE_LEN 34  /* compacted_effective_range */
 #define BILQARUSH_KEY_LEN 1024       /* intersect_start_key, intersect_end_key */
 #define BILQARUSH_RANGE_LEN 2053     /* from_prefix, from_prefix_and_subrange */
@@ -236,6 +239,113 @@ uint8_t bilqarush_list(const uint8_t *image, size_t image_len, uint8_t *out, siz
  */
 uint8_t bilqarush_commit(const uint8_t *image, size_t image_len, const uint8_t *job, size_t job_len, const uint8_t *ids,
                          size_t ids_len, uint8_t *out, size_t out_len, size_t *written);
+
+/* ---- Lookup in an index ---- */
+
+/*
+ * The blocks of an index are its partitions, told by their places from 0 on. Each has a first key, and no key of a partition
+ * is below its first key or above the next one's. A key can stand in several partitions side by side.
+ */
+
+/*
+ * How many of the leading first keys satisfy a test: being below `key` (`at_or_below` false), or at or below it. *count is
+ * that number, 0 if there are no partitions.
+ * Stops: the fields of index (1 and 3 alone); 3 if key is over 1,024 bytes; 6.
+ */
+uint8_t bilqarush_partition_point(const uint8_t *index, size_t index_len, bool at_or_below, const uint8_t *key,
+                                  size_t key_len, size_t *count);
+
+/*
+ * The first partition that can hold a key: the last whose first key is below it, else the first if the key is its first key.
+ * *found says whether there is one, and *partition is its place; where there is none, *partition is left as it was. There is
+ * none if each first key is above the key, and none with no partitions.
+ * Stops: as bilqarush_partition_point.
+ */
+uint8_t bilqarush_first_partition_including_key(const uint8_t *index, size_t index_len, const uint8_t *key,
+                                                size_t key_len, bool *found, size_t *partition);
+
+/*
+ * The first partition that can hold a key or one after it: that of bilqarush_first_partition_including_key, and 0 where that
+ * finds none, also with no partitions.
+ * Stops: as bilqarush_partition_point.
+ */
+uint8_t bilqarush_first_partition_including_or_after_key(const uint8_t *index, size_t index_len, const uint8_t *key,
+                                                         size_t key_len, size_t *partition);
+
+/*
+ * The last partition that can hold a key: the last whose first key is at or below it. *found and *partition as in
+ * bilqarush_first_partition_including_key: there is none if each first key is above the key, and none with no partitions.
+ * Stops: as bilqarush_partition_point.
+ */
+uint8_t bilqarush_last_partition_including_key(const uint8_t *index, size_t index_len, const uint8_t *key,
+                                               size_t key_len, bool *found, size_t *partition);
+
+/*
+ * The partitions that can hold a key of a range: those from *start up to, without, *end; none if both are equal. With no
+ * partitions both are 0.
+ * Stops: the fields of index (1 and 3 alone), then of range; 4; 6.
+ */
+uint8_t bilqarush_partitions_covering_range(const uint8_t *index, size_t index_len, const uint8_t *range,
+                                            size_t range_len, size_t *start, size_t *end);
+
+/* ---- Lookup in an image ---- */
+
+/*
+ * In these calls `run` is the run's place in the image and `view` the view's place in its run, both from 0. Each takes any
+ * number there; a place that is not in the image is stop 9.
+ */
+
+/*
+ * The views of a run that can hold a key of a range: those from *start up to, without, *end; none if both are equal. Both
+ * are 0 if the run has no views. A view counts up to the next view's effective start, and with that key if its effective
+ * range holds it; the last view counts without end.
+ * Stops: the fields of image, then of range; 4, of the range or a visible range; 5; 6; 7; 9.
+ */
+uint8_t bilqarush_table_idx_covering_range(const uint8_t *image, size_t image_len, size_t run, const uint8_t *range,
+                                           size_t range_len, size_t *start, size_t *end);
+
+/*
+ * Whether a range meets a run's span: from the effective start of its first view to the effective end of its last. Without
+ * views it does not.
+ * Stops: as bilqarush_table_idx_covering_range.
+ */
+uint8_t bilqarush_overlaps_range(const uint8_t *image, size_t image_len, size_t run, const uint8_t *range,
+                                 size_t range_len, bool *is);
+
+/*
+ * What a view keeps of a range. Of the last view of a run: the intersection of its effective range and the range. Of
+ * another: the intersection of the keys from its effective start up to the next view's (with that key if its effective range
+ * holds it, and keys past its last key too) and the range; then, if it has a visible range, the intersection of the result
+ * and that.
+ * Writes as bilqarush_intersect, with slice 1 the image and slice 2 the range: of equal bounds each intersection takes the
+ * second's start and the first's end, in the order said here.
+ * Stops: as bilqarush_table_idx_covering_range; 16.
+ */
+uint8_t bilqarush_compacted_intersection(const uint8_t *image, size_t image_len, size_t run, size_t view,
+                                         const uint8_t *range, size_t range_len, uint8_t *out, size_t out_len,
+                                         size_t *written);
+
+/*
+ * The part of a range that a view is read for: the intersection of the range and its visible range; without one, of the
+ * range and its table's own range; and without a last key either, the range as it is.
+ * Writes as bilqarush_intersect, with slice 1 the image and slice 2 the range: of equal bounds the image's start and the
+ * range's end.
+ * Stops: as bilqarush_table_idx_covering_range; 16.
+ */
+uint8_t bilqarush_calculate_view_range(const uint8_t *image, size_t image_len, size_t run, size_t view,
+                                       const uint8_t *range, size_t range_len, uint8_t *out, size_t out_len,
+                                       size_t *written);
+
+/*
+ * Whether a range meets a view that counts from its effective start up to an end bound, which stands in place of its own
+ * end. It does not where the view's effective range lies behind that bound. The end bound is given as its kind and its key;
+ * an unbounded one has a key of 0 bytes.
+ * Stops: the fields of image; of the end bound, 2 if the kind is over 2, 3 if the key is over 1,024 bytes (over 65,536 where
+ * unbounded), 1 if an unbounded bound has bytes; the fields of range; 4, of the range or a visible range; 5; 6; 7; 9.
+ */
+uint8_t bilqarush_intersects_range(const uint8_t *image, size_t image_len, size_t run, size_t view, uint8_t end_kind,
+                                   const uint8_t *end, size_t end_len, const uint8_t *range, size_t range_len,
+                                   bool *is);
 
 #ifdef __cplusplus
 }

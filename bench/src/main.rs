@@ -7,6 +7,7 @@ mod commits;
 mod images;
 mod jobs;
 mod keys;
+mod lookups;
 mod ours;
 mod ranges;
 mod shapes;
@@ -40,25 +41,36 @@ fn main() {
         if cfg!(debug_assertions) { "on" } else { "off" },
     );
     let passes = (0..PASSES).map(|_| measured(&clock));
-    let [mut rows, mut images, commits] = passes.reduce(least).expect("there is a pass");
+    let [mut rows, mut images, commits, lookups, against] =
+        passes.reduce(least).expect("there is a pass");
 
     table::print("Keys and ranges", &["Rust, keys lent"], &rows);
     table::print("Images", &[], &images);
     table::print("Commits", &["decode", "call", "encode"], &commits);
+    table::print("Lookups", &["decode", "call"], &lookups);
+    table::print_sides(
+        "An index, and an image of as many keys: both ours",
+        ["index", "image", "index / image"],
+        &[],
+        &against,
+    );
     images.extend(commits);
     table::print_by_size(&images, &shapes::SIZES);
     rows.extend(images);
+    rows.extend(lookups);
     table::print_above(&rows);
 }
 
 /// The rows of each table.
-type Rows = [Vec<Row>; 3];
+type Rows = [Vec<Row>; 5];
 
 fn measured(clock: &Clock) -> Rows {
     [
         ranges::rows(clock),
         images::rows(clock),
         commits::rows(clock),
+        lookups::rows(clock),
+        lookups::against_images(clock),
     ]
 }
 

@@ -2,6 +2,7 @@
 //! number of a stop is returned, 0 if none.
 use bilqarush::raw::*;
 use oracle::direct::Checked;
+use std::ops::Range;
 
 fn answered<T>(stop: u8, answer: T) -> Checked<T> {
     if stop == 0 {
@@ -137,3 +138,161 @@ writers!(two
     intersect_end_key bilqarush_intersect_end_key,
     union bilqarush_union,
     from_prefix_and_subrange bilqarush_from_prefix_and_subrange);
+
+pub fn partition_point(index: &[u8], at_or_below: bool, key: &[u8]) -> Checked<usize> {
+    let mut count = 0;
+    let stop = unsafe {
+        bilqarush_partition_point(
+            index.as_ptr(),
+            index.len(),
+            at_or_below,
+            key.as_ptr(),
+            key.len(),
+            &mut count,
+        )
+    };
+    answered(stop, count)
+}
+
+pub fn first_partition_including_or_after_key(index: &[u8], key: &[u8]) -> Checked<usize> {
+    let mut partition = 0;
+    let stop = unsafe {
+        bilqarush_first_partition_including_or_after_key(
+            index.as_ptr(),
+            index.len(),
+            key.as_ptr(),
+            key.len(),
+            &mut partition,
+        )
+    };
+    answered(stop, partition)
+}
+
+/// Lookups of a key that may find none.
+macro_rules! finders {
+    ($($name:ident $symbol:ident),*) => {$(
+        pub fn $name(index: &[u8], key: &[u8]) -> Checked<Option<usize>> {
+            let (mut found, mut partition) = (false, 0);
+            let stop = unsafe {
+                $symbol(
+                    index.as_ptr(),
+                    index.len(),
+                    key.as_ptr(),
+                    key.len(),
+                    &mut found,
+                    &mut partition,
+                )
+            };
+            answered(stop, found.then_some(partition))
+        }
+    )*};
+}
+
+finders!(
+    first_partition_including_key bilqarush_first_partition_including_key,
+    last_partition_including_key bilqarush_last_partition_including_key);
+
+pub fn partitions_covering_range(index: &[u8], range: &[u8]) -> Checked<Range<usize>> {
+    let (mut start, mut end) = (0, 0);
+    let stop = unsafe {
+        bilqarush_partitions_covering_range(
+            index.as_ptr(),
+            index.len(),
+            range.as_ptr(),
+            range.len(),
+            &mut start,
+            &mut end,
+        )
+    };
+    answered(stop, start..end)
+}
+
+pub fn table_idx_covering_range(image: &[u8], run: usize, range: &[u8]) -> Checked<Range<usize>> {
+    let (mut start, mut end) = (0, 0);
+    let stop = unsafe {
+        bilqarush_table_idx_covering_range(
+            image.as_ptr(),
+            image.len(),
+            run,
+            range.as_ptr(),
+            range.len(),
+            &mut start,
+            &mut end,
+        )
+    };
+    answered(stop, start..end)
+}
+
+pub fn overlaps_range(image: &[u8], run: usize, range: &[u8]) -> Checked<bool> {
+    let mut is = false;
+    let stop = unsafe {
+        bilqarush_overlaps_range(
+            image.as_ptr(),
+            image.len(),
+            run,
+            range.as_ptr(),
+            range.len(),
+            &mut is,
+        )
+    };
+    answered(stop, is)
+}
+
+/// Calls on a view and a range that write a range.
+macro_rules! cutters {
+    ($($name:ident $symbol:ident),*) => {$(
+        pub fn $name(
+            image: &[u8],
+            run: usize,
+            view: usize,
+            range: &[u8],
+            out: &mut [u8],
+        ) -> Checked<usize> {
+            let mut written = 0;
+            let stop = unsafe {
+                $symbol(
+                    image.as_ptr(),
+                    image.len(),
+                    run,
+                    view,
+                    range.as_ptr(),
+                    range.len(),
+                    out.as_mut_ptr(),
+                    out.len(),
+                    &mut written,
+                )
+            };
+            answered(stop, written)
+        }
+    )*};
+}
+
+cutters!(
+    compacted_intersection bilqarush_compacted_intersection,
+    calculate_view_range bilqarush_calculate_view_range);
+
+pub fn intersects_range(
+    image: &[u8],
+    run: usize,
+    view: usize,
+    end_kind: u8,
+    end: &[u8],
+    range: &[u8],
+) -> Checked<bool> {
+    let mut is = false;
+    let stop = unsafe {
+        bilqarush_intersects_range(
+            image.as_ptr(),
+            image.len(),
+            run,
+            view,
+            end_kind,
+            end.as_ptr(),
+            end.len(),
+            range.as_ptr(),
+            range.len(),
+            &mut is,
+        )
+    };
+    answered(stop, is)
+}

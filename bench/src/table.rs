@@ -101,16 +101,14 @@ fn ns(time: f64) -> String {
 
 /// `more` names the further sides.
 pub fn print(title: &str, more: &[&str], rows: &[Row]) {
+    print_sides(title, ["ours", "Rust", "ours / Rust"], more, rows);
+}
+
+/// The first two sides and their quotient have these names.
+pub fn print_sides(title: &str, names: [&str; 3], more: &[&str], rows: &[Row]) {
     println!("\n## {title}\n");
-    let columns = [
-        "call",
-        "case",
-        "bytes",
-        "ours",
-        "Rust",
-        "ours / Rust",
-        "copy",
-    ];
+    let [first, second, quotient] = names;
+    let columns = ["call", "case", "bytes", first, second, quotient, "copy"];
     let columns = [&columns[..], more].concat();
     println!("| {} |", columns.join(" | "));
     println!("|---|---|{}", "--:|".repeat(columns.len() - 2));

@@ -167,6 +167,68 @@ static void a_commit_that_cuts(void) {
     CHECK(bilqarush_check_image(new_image, written) == 0);
 }
 
+/* First keys a, b, b and d; none; and b, a. */
+#define BLOCK(first) "\0\0\0\0\0\0\0\0\0\x01" first
+#define INDEX "\0\x04" BLOCK("a") BLOCK("b") BLOCK("b") BLOCK("d")
+#define NO_BLOCKS "\0\0"
+#define DESCENDS "\0\x02" BLOCK("b") BLOCK("a")
+
+static void lookups_of_keys(void) {
+    size_t count = 77, partition = 77;
+    bool found = true;
+    CHECK(bilqarush_partition_point(BYTES(INDEX), false, BYTES("b"), &count) == 0 && count == 1);
+    CHECK(bilqarush_partition_point(BYTES(INDEX), true, BYTES("b"), &count) == 0 && count == 3);
+    CHECK(bilqarush_partition_point(BYTES(DESCENDS), true, BYTES("b"), &count) == 6 && count == 3);
+    CHECK(bilqarush_first_partition_including_key(BYTES(NO_BLOCKS), BYTES("b"), &found, &partition) == 0 && !found);
+    CHECK(bilqarush_last_partition_including_key(BYTES(INDEX), BYTES("A"), &found, &partition) == 0 && !found);
+    CHECK(partition == 77);
+    CHECK(bilqarush_first_partition_including_key(BYTES(INDEX), BYTES("b"), &found, &partition) == 0 && found);
+    CHECK(partition == 0);
+    CHECK(bilqarush_last_partition_including_key(BYTES(INDEX), BYTES("b"), &found, &partition) == 0 && found);
+    CHECK(partition == 2);
+    CHECK(bilqarush_last_partition_including_key(BYTES(""), BYTES("b"), &found, &partition) == 1 && found);
+    CHECK(bilqarush_first_partition_including_or_after_key(BYTES(INDEX), BYTES("e"), &partition) == 0 && partition == 3);
+    CHECK(bilqarush_first_partition_including_or_after_key(BYTES("\0"), BYTES("e"), &partition) == 1 && partition == 3);
+}
+
+static void coverings(void) {
+    size_t start = 77, end = 78;
+    CHECK(bilqarush_partitions_covering_range(BYTES(INDEX), BYTES(EMPTY), &start, &end) == 4);
+    CHECK(bilqarush_table_idx_covering_range(BYTES(EXAMPLE), 1, BYTES(A_TO_M), &start, &end) == 9);
+    CHECK(start == 77 && end == 78);
+    CHECK(bilqarush_partitions_covering_range(BYTES(INDEX), BYTES(AFTER_C), &start, &end) == 0);
+    CHECK(start == 2 && end == 4);
+    CHECK(bilqarush_table_idx_covering_range(BYTES(EXAMPLE), 0, BYTES(A_TO_M), &start, &end) == 0);
+    CHECK(start == 0 && end == 2);
+}
+
+static void tests_of_views(void) {
+    bool is = false;
+    CHECK(bilqarush_overlaps_range(BYTES(EXAMPLE), 0, BYTES(AFTER_C), &is) == 0 && is);
+    CHECK(bilqarush_overlaps_range(BYTES(EXAMPLE), 0, BYTES(EMPTY), &is) == 4 && is);
+    CHECK(bilqarush_intersects_range(BYTES(EXAMPLE), 0, 0, BILQARUSH_EXCLUDED, BYTES("d"), BYTES(AFTER_C), &is) == 0 && is);
+    CHECK(bilqarush_intersects_range(BYTES(EXAMPLE), 0, 0, BILQARUSH_INCLUDED, BYTES("c"), BYTES(AFTER_C), &is) == 0 && !is);
+    CHECK(bilqarush_intersects_range(BYTES(EXAMPLE), 0, 0, 3, BYTES("c"), BYTES(PADDED), &is) == 2 && !is);
+    CHECK(bilqarush_intersects_range(BYTES(EXAMPLE), 0, 0, BILQARUSH_UNBOUNDED, BYTES("c"), BYTES(PADDED), &is) == 1);
+}
+
+static void ranges_of_views(void) {
+    fill();
+    CHECK(wrote(bilqarush_compacted_intersection(BYTES(EXAMPLE), 0, 0, BYTES(A_TO_M), out, BILQARUSH_JOINED_LEN, &written),
+                BYTES("\x01\x01\x02\0\0\0\0\0\0\0\x03\0\0\0\0\0\0\0\x01"
+                      "\x02\x01\0\0\0\0\0\0\0\x82\0\0\0\0\0\0\0\x01")));
+    fill();
+    CHECK(wrote(bilqarush_calculate_view_range(BYTES(EXAMPLE), 0, 0, BYTES(A_TO_M), out, ROOM, &written),
+                BYTES("\x01\x01\x01\0\0\0\0\0\0\0\x42\0\0\0\0\0\0\0\x01"
+                      "\x01\x01\0\0\0\0\0\0\0\x45\0\0\0\0\0\0\0\x01")));
+    fill();
+    CHECK(wrote(bilqarush_calculate_view_range(BYTES(EXAMPLE), 0, 0, BYTES(AFTER_C), out, 1, &written), BYTES("\0")));
+    fill();
+    CHECK(stopped(bilqarush_compacted_intersection(BYTES(EXAMPLE), 0, 2, BYTES(A_TO_M), out, ROOM, &written), 9));
+    CHECK(stopped(bilqarush_compacted_intersection(BYTES(EXAMPLE), 0, 0, BYTES(A_TO_M), out, 36, &written), 16));
+    CHECK(stopped(bilqarush_calculate_view_range(BYTES(EXAMPLE), 0, 0, BYTES(PADDED), out, ROOM, &written), 2));
+}
+
 int main(void) {
     keys_and_bounds();
     tests_of_ranges();
@@ -177,6 +239,10 @@ int main(void) {
     images();
     commits();
     a_commit_that_cuts();
+    lookups_of_keys();
+    coverings();
+    tests_of_views();
+    ranges_of_views();
     if (failures == 0) {
         printf("bindings/c/calls: each call answered as expected\n");
     }

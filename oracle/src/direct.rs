@@ -7,12 +7,14 @@ mod commits;
 mod decode;
 mod encode;
 mod images;
+mod lookups;
 mod ranges;
 
 pub mod borrowed;
 
 pub use commits::{commit, Committed, Given};
 pub use images::{check_image, compacted_effective_range, list, Listed};
+pub use lookups::{Index, Runs};
 pub use ranges::{
     as_point, cmp_bound, compare, contains, from_prefix, from_prefix_and_subrange, intersect,
     intersect_end_key, intersect_start_key, non_empty, union,

@@ -1,6 +1,6 @@
 //! Answers as the raw calls write them.
 use crate::raw;
-use crate::Stop;
+use crate::{Joined, Range, Side, Stop};
 use std::ops::Bound;
 
 /// No archive that fits this crate answers such a number.
@@ -47,4 +47,28 @@ pub(crate) fn kind_and_key(bound: Bound<&[u8]>) -> (u8, &[u8]) {
         Bound::Included(key) => (raw::BILQARUSH_INCLUDED, key),
         Bound::Excluded(key) => (raw::BILQARUSH_EXCLUDED, key),
     }
+}
+
+/// The range that a call such as `intersect` wrote, if any.
+pub(crate) fn joined<'a>(a: &'a [u8], b: &'a [u8], answer: &[u8]) -> Option<Joined<'a>> {
+    if answer[0] == 0 {
+        return None;
+    }
+    let (start_from, start) = supplied(a, b, &answer[1..19]);
+    let (end_from, end) = supplied(a, b, &answer[19..37]);
+    Some(Joined {
+        range: Range { start, end },
+        start_from,
+        end_from,
+    })
+}
+
+/// A bound, written as its kind, the side that supplied it, and the place and length of its key there.
+fn supplied<'a>(a: &'a [u8], b: &'a [u8], answer: &[u8]) -> (Side, Bound<&'a [u8]>) {
+    let (side, slice) = match answer[1] {
+        raw::BILQARUSH_FIRST => (Side::First, a),
+        raw::BILQARUSH_SECOND => (Side::Second, b),
+        side => unfit("side", side),
+    };
+    (side, bound(answer[0], slice, &answer[2..]))
 }

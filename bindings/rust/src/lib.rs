@@ -1,4 +1,5 @@
-//! Bilqarush: ranges of byte keys, images of runs, and the commit of a compaction, after slatedb 0.18.0.
+//! Bilqarush: ranges of byte keys, images of runs, lookups in them and in indexes, and the commit of a compaction, after
+//! slatedb 0.18.0.
 //!
 //! A safe function for each call of `libbilqarush_c.a`, which is written in Rattle and proved: what each answers, for
 //! every input, is stated in `docs/PROMISES.md` of the repository. A call takes any bytes. It answers, or refuses with a
@@ -19,8 +20,8 @@
 //!
 //! # Arguments
 //!
-//! A key or a prefix is its bare bytes. A range is a range image, which [`range_image`] makes. Images and jobs are laid out
-//! as `include/bilqarush.h` says.
+//! A key or a prefix is its bare bytes. A range is a range image, which [`range_image`] makes. Images, jobs and indexes are
+//! laid out as `include/bilqarush.h` says.
 //!
 //! ```
 //! use bilqarush::{contains, from_prefix, RANGE_LEN};
@@ -35,11 +36,17 @@
 
 mod answer;
 mod images;
+mod lookups;
 mod ranges;
 pub mod raw;
 mod stop;
 
 pub use images::{check_image, commit, compacted_effective_range, list};
+pub use lookups::{
+    calculate_view_range, compacted_intersection, first_partition_including_key,
+    first_partition_including_or_after_key, intersects_range, last_partition_including_key,
+    overlaps_range, partition_point, partitions_covering_range, table_idx_covering_range, Test,
+};
 pub use ranges::{
     as_point, cmp_bound, compare, contains, from_prefix, from_prefix_and_subrange, intersect,
     intersect_end_key, intersect_start_key, non_empty, range_image, union, Bounds, Joined, Range,

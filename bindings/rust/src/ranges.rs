@@ -1,5 +1,5 @@
 //! Keys, bounds and ranges.
-use crate::answer::{bound, kind_and_key, part, unfit, written};
+use crate::answer::{joined, kind_and_key, part, written};
 use crate::raw;
 use crate::Stop;
 use std::cmp::Ordering;
@@ -14,23 +14,23 @@ pub struct Range<'a> {
     pub end: Bound<&'a [u8]>,
 }
 
-/// Which of two ranges supplied a bound.
+/// Which of two slices supplied a bound.
 #[derive(Clone, Copy, Debug, PartialEq, Eq, Hash)]
 pub enum Side {
-    /// The first argument.
+    /// The first argument: the first of two ranges, or the image.
     First,
-    /// The second argument.
+    /// The second: the second of two ranges, or the range that was asked for.
     Second,
 }
 
-/// A range made of the bounds of two, and where each bound comes from.
+/// A range made of bounds that stand in two slices, and where each bound comes from.
 #[derive(Clone, Copy, Debug, PartialEq, Eq, Hash)]
 pub struct Joined<'a> {
     /// The range. A bound's key is a part of the slice that supplied it.
     pub range: Range<'a>,
-    /// The range that supplied the start.
+    /// The slice that supplied the start.
     pub start_from: Side,
-    /// The range that supplied the end.
+    /// The slice that supplied the end.
     pub end_from: Side,
 }
 
@@ -173,30 +173,6 @@ pub fn as_point(range: &[u8]) -> Result<Option<&[u8]>, Stop> {
         raw::bilqarush_as_point(range.as_ptr(), range.len(), to, room, length)
     })?;
     Ok((answer[0] == 1).then(|| part(range, &answer[1..])))
-}
-
-/// The range that `intersect` or `union` wrote, if any.
-fn joined<'a>(a: &'a [u8], b: &'a [u8], answer: &[u8]) -> Option<Joined<'a>> {
-    if answer[0] == 0 {
-        return None;
-    }
-    let (start_from, start) = supplied(a, b, &answer[1..19]);
-    let (end_from, end) = supplied(a, b, &answer[19..37]);
-    Some(Joined {
-        range: Range { start, end },
-        start_from,
-        end_from,
-    })
-}
-
-/// A bound, written as its kind, the side that supplied it, and the place and length of its key there.
-fn supplied<'a>(a: &'a [u8], b: &'a [u8], answer: &[u8]) -> (Side, Bound<&'a [u8]>) {
-    let (side, slice) = match answer[1] {
-        raw::BILQARUSH_FIRST => (Side::First, a),
-        raw::BILQARUSH_SECOND => (Side::Second, b),
-        side => unfit("side", side),
-    };
-    (side, bound(answer[0], slice, &answer[2..]))
 }
 
 /// The intersection of two ranges: the greater start and the lesser end; of equal bounds, the second range's start and

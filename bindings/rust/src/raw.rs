@@ -1,7 +1,8 @@
 //! The C interface, exactly as `include/bilqarush.h` has it; what each call reads, writes and answers is said there.
 //!
-//! Pointers are never null, even where the length is 0. What is written (`out` and the slots `order`, `is` and
-//! `written`) overlaps nothing else that the call is given, and slots are initialised.
+//! Pointers are never null, even where the length is 0. What is written (`out` and the slots `order`, `is`, `written`,
+//! `count`, `found`, `partition`, `start` and `end`: all that is `*mut`) overlaps nothing else that the call is given, and
+//! slots are initialised.
 
 /// The ceiling of a key, in bytes.
 pub const BILQARUSH_MAX_KEY: usize = 1024;
@@ -25,14 +26,14 @@ pub const BILQARUSH_INCLUDED: u8 = 1;
 /// The kind of an excluded bound.
 pub const BILQARUSH_EXCLUDED: u8 = 2;
 
-/// The side of a bound that the first range supplied.
+/// The side of a bound that the first slice supplied.
 pub const BILQARUSH_FIRST: u8 = 1;
-/// The side of a bound that the second range supplied.
+/// The side of a bound that the second slice supplied.
 pub const BILQARUSH_SECOND: u8 = 2;
 
 /// The longest answer of `as_point`.
 pub const BILQARUSH_POINT_LEN: usize = 17;
-/// The longest answer of `intersect` and `union`.
+/// The longest answer of `intersect`, `union`, `compacted_intersection` and `calculate_view_range`.
 pub const BILQARUSH_JOINED_LEN: usize = 37;
 /// The answer of `compacted_effective_range`.
 pub const BILQARUSH_VIEW_RANGE_LEN: usize = 34;
@@ -186,5 +187,115 @@ unsafe extern "C" {
         out: *mut u8,
         out_len: usize,
         written: *mut usize,
+    ) -> u8;
+
+    /// How many of an index's leading first keys satisfy a test.
+    pub fn bilqarush_partition_point(
+        index: *const u8,
+        index_len: usize,
+        at_or_below: bool,
+        key: *const u8,
+        key_len: usize,
+        count: *mut usize,
+    ) -> u8;
+
+    /// The first partition that can hold a key.
+    pub fn bilqarush_first_partition_including_key(
+        index: *const u8,
+        index_len: usize,
+        key: *const u8,
+        key_len: usize,
+        found: *mut bool,
+        partition: *mut usize,
+    ) -> u8;
+
+    /// The first partition that can hold a key or one after it.
+    pub fn bilqarush_first_partition_including_or_after_key(
+        index: *const u8,
+        index_len: usize,
+        key: *const u8,
+        key_len: usize,
+        partition: *mut usize,
+    ) -> u8;
+
+    /// The last partition that can hold a key.
+    pub fn bilqarush_last_partition_including_key(
+        index: *const u8,
+        index_len: usize,
+        key: *const u8,
+        key_len: usize,
+        found: *mut bool,
+        partition: *mut usize,
+    ) -> u8;
+
+    /// The partitions that can hold a key of a range.
+    pub fn bilqarush_partitions_covering_range(
+        index: *const u8,
+        index_len: usize,
+        range: *const u8,
+        range_len: usize,
+        start: *mut usize,
+        end: *mut usize,
+    ) -> u8;
+
+    /// The views of a run that can hold a key of a range.
+    pub fn bilqarush_table_idx_covering_range(
+        image: *const u8,
+        image_len: usize,
+        run: usize,
+        range: *const u8,
+        range_len: usize,
+        start: *mut usize,
+        end: *mut usize,
+    ) -> u8;
+
+    /// Whether a range meets a run's span.
+    pub fn bilqarush_overlaps_range(
+        image: *const u8,
+        image_len: usize,
+        run: usize,
+        range: *const u8,
+        range_len: usize,
+        is: *mut bool,
+    ) -> u8;
+
+    /// What a view keeps of a range.
+    pub fn bilqarush_compacted_intersection(
+        image: *const u8,
+        image_len: usize,
+        run: usize,
+        view: usize,
+        range: *const u8,
+        range_len: usize,
+        out: *mut u8,
+        out_len: usize,
+        written: *mut usize,
+    ) -> u8;
+
+    /// The part of a range that a view is read for.
+    pub fn bilqarush_calculate_view_range(
+        image: *const u8,
+        image_len: usize,
+        run: usize,
+        view: usize,
+        range: *const u8,
+        range_len: usize,
+        out: *mut u8,
+        out_len: usize,
+        written: *mut usize,
+    ) -> u8;
+
+    /// Whether a range meets a view that counts up to an end bound.
+    pub fn bilqarush_intersects_range(
+        image: *const u8,
+        image_len: usize,
+        run: usize,
+        view: usize,
+        end_kind: u8,
+        end: *const u8,
+        end_len: usize,
+        range: *const u8,
+        range_len: usize,
+        is: *mut bool,
     ) -> u8;
 }

@@ -56,9 +56,9 @@ fn the_same_functions() {
         (name.to_string(), parameters.to_string())
     });
     let in_header: Vec<_> = in_header.collect();
-    assert_eq!(in_header.len(), 15);
+    assert_eq!(in_header.len(), 25);
     assert_eq!(in_header, in_raw.collect::<Vec<_>>());
-    assert_eq!(raw.matches(") -> u8;").count(), 15);
+    assert_eq!(raw.matches(") -> u8;").count(), 25);
 }
 
 #[test]

@@ -2,7 +2,7 @@
 mod common;
 
 use bilqarush::raw::*;
-use common::{example, excluded, included, range, UNWRITTEN};
+use common::{example, excluded, included, index, range, UNWRITTEN};
 use std::ops::Bound::Unbounded;
 
 const SLOT: usize = 77;
@@ -195,4 +195,163 @@ fn what_is_read_stays() {
     assert_eq!((stop, new), (0, example()));
     assert_eq!(image, example());
     assert_eq!(job, common::job(7, &[7], &[]));
+}
+
+/// A call that finds a partition: what it returned, and the slots.
+fn finds(
+    call: unsafe extern "C" fn(*const u8, usize, *const u8, usize, *mut bool, *mut usize) -> u8,
+    index: &[u8],
+    key: &[u8],
+    before: bool,
+) -> (u8, bool, usize) {
+    let (mut found, mut partition) = (before, SLOT);
+    let stop = unsafe {
+        call(
+            index.as_ptr(),
+            index.len(),
+            key.as_ptr(),
+            key.len(),
+            &mut found,
+            &mut partition,
+        )
+    };
+    (stop, found, partition)
+}
+
+#[test]
+fn a_partition_that_is_not_found_leaves_its_slot() {
+    let (some, none) = (index(&["b"]), index(&[]));
+    for call in [
+        bilqarush_first_partition_including_key,
+        bilqarush_last_partition_including_key,
+    ] {
+        for before in [false, true] {
+            assert_eq!(finds(call, &some, b"b", before), (0, true, 0));
+            assert_eq!(finds(call, &some, b"a", before), (0, false, SLOT));
+            assert_eq!(finds(call, &none, b"a", before), (0, false, SLOT));
+            assert_eq!(finds(call, b"", b"a", before), (1, before, SLOT));
+        }
+    }
+}
+
+#[test]
+fn slots_of_lookups_stay_after_a_stop() {
+    let [image, falls, whole] = [example(), index(&["b", "a"]), range(Unbounded, Unbounded)];
+    let (at, length) = (falls.as_ptr(), falls.len());
+    let (of, size) = (image.as_ptr(), image.len());
+    let (asked, long) = (whole.as_ptr(), whole.len());
+    let (mut first, mut second) = (SLOT, SLOT + 1);
+    unsafe {
+        let key = [7].as_ptr();
+        let stop = bilqarush_partition_point(at, length, true, key, 1, &mut first);
+        assert_eq!((stop, first), (6, SLOT));
+        let stop = bilqarush_first_partition_including_or_after_key(at, length, key, 1, &mut first);
+        assert_eq!((stop, first), (6, SLOT));
+        let stop =
+            bilqarush_partitions_covering_range(at, length, asked, long, &mut first, &mut second);
+        assert_eq!((stop, first, second), (6, SLOT, SLOT + 1));
+        let stop =
+            bilqarush_table_idx_covering_range(of, size, 1, asked, long, &mut first, &mut second);
+        assert_eq!((stop, first, second), (9, SLOT, SLOT + 1));
+        for before in [false, true] {
+            let mut is = before;
+            let stop = bilqarush_overlaps_range(of, size, 1, asked, long, &mut is);
+            assert_eq!((stop, is), (9, before));
+            let stop = bilqarush_intersects_range(of, size, 0, 2, 0, key, 0, asked, long, &mut is);
+            assert_eq!((stop, is), (9, before));
+        }
+    }
+}
+
+fn intersects_range(end_kind: u8, end: &[u8], range: &[u8]) -> (u8, u8) {
+    let image = example();
+    let mut is = false;
+    let stop = unsafe {
+        bilqarush_intersects_range(
+            image.as_ptr(),
+            image.len(),
+            0,
+            0,
+            end_kind,
+            end.as_ptr(),
+            end.len(),
+            range.as_ptr(),
+            range.len(),
+            &mut is,
+        )
+    };
+    (stop, is.into())
+}
+
+#[test]
+fn end_bounds_by_kind_and_key() {
+    let whole = range(Unbounded, Unbounded);
+    assert_eq!(intersects_range(0, b"", &whole), (0, 1));
+    assert_eq!(intersects_range(1, b"a", &whole), (0, 1));
+    assert_eq!(intersects_range(2, b"a", &whole), (0, 0));
+    // The bound comes before the range.
+    for range in [&whole[..], b"\x01"] {
+        assert_eq!(intersects_range(3, b"a", range), (2, 0));
+        assert_eq!(intersects_range(255, &[0; 65_537], range), (2, 0));
+        assert_eq!(intersects_range(0, b"a", range), (1, 0));
+        assert_eq!(intersects_range(0, &[0; 65_536], range), (1, 0));
+        assert_eq!(intersects_range(0, &[0; 65_537], range), (3, 0));
+        assert_eq!(intersects_range(2, &[0; 1025], range), (3, 0));
+    }
+}
+
+/// A call on a view of the first run of the example.
+fn on_view(
+    call: unsafe extern "C" fn(
+        *const u8,
+        usize,
+        usize,
+        usize,
+        *const u8,
+        usize,
+        *mut u8,
+        usize,
+        *mut usize,
+    ) -> u8,
+    view: usize,
+    range: &[u8],
+    room: usize,
+) -> (u8, Vec<u8>) {
+    let image = example();
+    told(room, |to, room, written| unsafe {
+        let (asked, length) = (range.as_ptr(), range.len());
+        call(
+            image.as_ptr(),
+            image.len(),
+            0,
+            view,
+            asked,
+            length,
+            to,
+            room,
+            written,
+        )
+    })
+}
+
+#[test]
+fn ranges_of_views_byte_by_byte() {
+    let (keeps, reads) = (
+        bilqarush_compacted_intersection,
+        bilqarush_calculate_view_range,
+    );
+    let asked = range(included("b"), Unbounded);
+    // Up to the start of the next view, which is d; up to the last key, which is c.
+    let kept = [&[1, 1, 2][..], &place(3, 1), &[2, 1], &place(0x82, 1)].concat();
+    let read = [&[1, 1, 2][..], &place(3, 1), &[1, 1], &place(0x45, 1)].concat();
+    assert_eq!(on_view(keeps, 0, &asked, 40), (0, kept.clone()));
+    assert_eq!(on_view(keeps, 0, &asked, 37), (0, kept));
+    assert_eq!(on_view(reads, 0, &asked, 37), (0, read));
+    let apart = range(Unbounded, excluded("a"));
+    for call in [keeps, reads] {
+        assert_eq!(on_view(call, 0, &asked, 36), (16, vec![]));
+        assert_eq!(on_view(call, 0, &apart, 1), (0, vec![0]));
+        assert_eq!(on_view(call, 0, &apart, 0), (16, vec![]));
+        assert_eq!(on_view(call, 2, &asked, 0), (9, vec![]));
+    }
 }

@@ -1,5 +1,5 @@
-//! The recorded answers that the programs replay_ranges, replay_images and replay_commits replay in Rattle, replayed
-//! through the C interface. oracle/README.md has the layouts of the records.
+//! The recorded answers that the programs replay_ranges, replay_images, replay_commits and replay_lookups replay in Rattle,
+//! replayed through the C interface. oracle/README.md has the layouts of the records.
 mod common;
 
 use bilqarush::*;
@@ -285,4 +285,138 @@ fn commits() {
         }
     }
     assert_eq!(called, 3482);
+}
+
+// ---- lookups
+
+/// What a lookup asks.
+struct Asked<'a> {
+    number: u8,
+    key: &'a [u8],
+    range: &'a [u8],
+}
+
+fn long_number(number: usize) -> Vec<u8> {
+    number.to_be_bytes().to_vec()
+}
+
+fn found_record(found: Option<usize>) -> Vec<u8> {
+    found.map_or(vec![0], |place| [vec![1], long_number(place)].concat())
+}
+
+fn places_record(places: std::ops::Range<usize>) -> Vec<u8> {
+    [long_number(places.start), long_number(places.end)].concat()
+}
+
+/// A bound as its kind, the slice that supplied it, and the place and length of its key there, 0 if it has none.
+fn supplied_record(image: &[u8], range: &[u8], side: Side, bound: Bound<&[u8]>) -> Vec<u8> {
+    let (number, slice) = match side {
+        Side::First => (1, image),
+        Side::Second => (2, range),
+    };
+    let (kind, place, length) = match bound {
+        Bound::Unbounded => (0, 0, 0),
+        Bound::Included(key) => (1, place_in(slice, key), key.len()),
+        Bound::Excluded(key) => (2, place_in(slice, key), key.len()),
+    };
+    [vec![kind, number], long_number(place), long_number(length)].concat()
+}
+
+fn kept_record(image: &[u8], range: &[u8], joined: Option<Joined>) -> Vec<u8> {
+    joined.map_or(vec![0], |joined| {
+        let start = supplied_record(image, range, joined.start_from, joined.range.start);
+        let end = supplied_record(image, range, joined.end_from, joined.range.end);
+        [vec![1], start, end].concat()
+    })
+}
+
+/// By the raw call, since some records give what no `Bound` is; the safe one must agree on the others.
+fn intersects_record(image: &[u8], run: usize, view: usize, asked: &Asked) -> Vec<u8> {
+    let (range, end) = (asked.range, asked.key);
+    let mut is = false;
+    // SAFETY: the slices are lent whole, and the slot is this function's own.
+    let stop = unsafe {
+        raw::bilqarush_intersects_range(
+            image.as_ptr(),
+            image.len(),
+            run,
+            view,
+            asked.number,
+            end.as_ptr(),
+            end.len(),
+            range.as_ptr(),
+            range.len(),
+            &mut is,
+        )
+    };
+    let made = match stop {
+        0 => vec![0, is.into()],
+        stop => vec![stop],
+    };
+    if let Some(end) = bound(asked.number, end) {
+        let is = intersects_range(image, run, view, end, range);
+        assert_eq!(outcome(is, |is| vec![is.into()]), made);
+    }
+    made
+}
+
+fn lookup_record(held: &[u8], record: &Record, asked: &Asked) -> Vec<u8> {
+    let Asked { number, key, range } = *asked;
+    let (run, view) = (record.x, record.y);
+    match record.call {
+        1 => {
+            let test = [Test::Below, Test::AtOrBelow][usize::from(number)];
+            outcome(partition_point(held, test, key), long_number)
+        }
+        2 => outcome(first_partition_including_key(held, key), found_record),
+        3 => outcome(
+            first_partition_including_or_after_key(held, key),
+            long_number,
+        ),
+        4 => outcome(last_partition_including_key(held, key), found_record),
+        5 => outcome(partitions_covering_range(held, range), places_record),
+        6 => outcome(table_idx_covering_range(held, run, range), places_record),
+        7 => outcome(overlaps_range(held, run, range), |is| vec![is.into()]),
+        8 => outcome(compacted_intersection(held, run, view, range), |kept| {
+            kept_record(held, range, kept)
+        }),
+        9 => outcome(calculate_view_range(held, run, view, range), |part| {
+            kept_record(held, range, part)
+        }),
+        10 => intersects_record(held, run, view, asked),
+        call => panic!("call {call}"),
+    }
+}
+
+#[test]
+fn lookups() {
+    let records = records("replay_lookups");
+    let mut rest = &records[..];
+    let mut held = Vec::new();
+    let mut called = 0;
+    while !rest.is_empty() {
+        let record = next(&mut rest);
+        match record.call {
+            0 => put(&mut held, &record),
+            11 => repeat(&mut held, &record),
+            call => {
+                let mut answer = record.bytes;
+                let kind = number(&mut answer, 1) as u8;
+                let lengths = [0; 2].map(|_| number(&mut answer, 2));
+                let [key, range] = lengths.map(|length| take(&mut answer, length));
+                let asked = Asked {
+                    number: kind,
+                    key,
+                    range,
+                };
+                let made = lookup_record(&held, &record, &asked);
+                assert_eq!(
+                    made, answer,
+                    "call {call}, {kind}, {key:x?}, {range:x?} on {held:x?}"
+                );
+                called += 1;
+            }
+        }
+    }
+    assert_eq!(called, 4978);
 }

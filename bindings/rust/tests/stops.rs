@@ -1,5 +1,6 @@
-use bilqarush::Stop;
+use bilqarush::*;
 use std::error::Error;
+use std::ops::Bound::Unbounded;
 
 const WORDS: [&str; 16] = [
     "stop 1: the input ends inside a field, or bytes remain after the last",
@@ -40,4 +41,22 @@ fn a_stop_is_an_error() {
     let stop = bilqarush::check_image(b"").unwrap_err();
     let error: Box<dyn Error + Send + Sync> = stop.into();
     assert_eq!(error.to_string(), WORDS[0]);
+}
+
+#[test]
+fn no_bytes_are_stop_1_of_each_lookup() {
+    let nothing = b"";
+    let stops = [
+        partition_point(nothing, Test::Below, b"a").unwrap_err(),
+        first_partition_including_key(nothing, b"a").unwrap_err(),
+        first_partition_including_or_after_key(nothing, b"a").unwrap_err(),
+        last_partition_including_key(nothing, b"a").unwrap_err(),
+        partitions_covering_range(nothing, nothing).unwrap_err(),
+        table_idx_covering_range(nothing, 0, nothing).unwrap_err(),
+        overlaps_range(nothing, 0, nothing).unwrap_err(),
+        compacted_intersection(nothing, 0, 0, nothing).unwrap_err(),
+        calculate_view_range(nothing, 0, 0, nothing).unwrap_err(),
+        intersects_range(nothing, 0, 0, Unbounded, nothing).unwrap_err(),
+    ];
+    assert!(stops.iter().all(|stop| stop.to_string() == WORDS[0]));
 }

@@ -10,6 +10,8 @@ use borrow.Author.Tests.{le-leb, lt-leb}
 use Rattle.base.specs.Pick.{pick}
 use Rattle.base.specs.declared.Written.{Written}
 use Rattle.base.specs.declared.Written.the-variants.{Wrote, Stop}
+use Rattle.base.specs.declared.Tested.{Tested}
+use Rattle.base.specs.declared.Tested.the-variants.{Is, Stop as TestedStop}
 
 pub data Outcome (A : Type 0) : Type 0 where
   stop : ℕ → Outcome A
@@ -41,6 +43,11 @@ writtenTo room b = check 16 (leb (length b) room) (answer b)
 abbrev pub reported : Outcome (List ℕ) → Written
 reported (stop n) = Stop n
 reported (answer b) = Wrote (length b)
+
+-- what a test's answer says
+abbrev pub testOf : Tested → Outcome Bool
+testOf (Is t) = answer t
+testOf (TestedStop n) = stop n
 
 -- ---- what the code of such a call knows, as its outcome has it
 module _ (d b : List ℕ) {n : ℕ} (e : n ≡ length b) where

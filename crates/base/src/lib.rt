@@ -5,3 +5,9 @@ pub enum Written {
     Wrote(usize),
     Stop(u8),
 }
+
+// What a test answers, or the number of the stop.
+pub enum Tested {
+    Is(bool),
+    Stop(u8),
+}

@@ -1,44 +1,35 @@
 -- The exits of the calls on keys, bounds and single ranges: the checks passed so far decide the outcome.
 -- Assumes nothing.
-use Prim.Native.Nat.{ℕ, zero, suc, _<_, _≤_}
+use Prim.Native.Nat.{ℕ, _<_, _≤_}
 use native.Mathlib.Omega.{arith}
-use mathlib.Core.Path.{_≡_, refl, sym, ap, _∙_}
+use mathlib.Core.Path.{_≡_, sym, ap, _∙_}
 use mathlib.Core.Bool.{Bool, true, false}
-use mathlib.Core.List.{List, [], _∷_}
+use mathlib.Core.List.{List}
 use lib.IntN.{ℤ}
 use lib.ListN.{length, take, drop, length-take, length-drop}
-use borrow.Author.Tests.{le-leb, lt-leb}
-use Rattle.base.specs.Outcome.{stop, answer}
-use Rattle.base.specs.Table.{NoneOf}
+use Rattle.base.specs.Outcome.{stop, answer, testOf}
+use Rattle.base.specs.declared.Tested.the-variants.{Is, Stop as TestedStop}
 use Rattle.key.specs.Order.{cmpKey, sign}
 use Rattle.key.specs.declared.Order.{Order}
-use Rattle.comparable_range.specs.Range.{unbounded, boundOf, cmpBound, nonEmpty, holds}
+use Rattle.comparable_range.specs.Range.{boundOf, cmpBound, nonEmpty, holds}
 use Rattle.comparable_range.specs.declared.Kind.{Kind}
-use Rattle.comparable_range.specs.declared.Kind.the-variants.{Unbounded, Included, Excluded}
 use Rattle.format.specs.Range.{readRange, rangeIn, BoundInside, RangeWhole}
-use Rattle.format.specs.Whole.{whole, keyGiven}
+use Rattle.format.specs.Whole.{whole}
+use Rattle.format.specs.Given.{boundGiven, givenOf}
+use Rattle.format.proofs.GivenExits.{key-fits, key-long}
+use Rattle.format.specs.declared.given.Given.{Given}
+use Rattle.format.specs.declared.given.Given.the-variants.{Bound as GivenBound, Stop as GivenStop}
 use Rattle.format.specs.declared.range.BoundSpan.{BoundSpan}
 use Rattle.format.specs.declared.range.RangeRead.{RangeRead}
 use Rattle.format.specs.declared.range.RangeRead.the-variants.{At as RangeAt, Stop as RangeStop}
 use Rattle.bytes_range.specs.Prefix.{asPoint}
 use Rattle.bytes_range.specs.Writing.{pointIf}
-use Rattle.bilqarush.specs.Calls.{rangeGiven, nothingLeft, boundGiven, compareOutcome, cmpBoundOutcome, nonEmptyOutcome, containsOutcome, asPointOutcome}
-use Rattle.bilqarush.specs.Answers.{givenOf, orderOf, testOf, pointAt}
-use Rattle.bilqarush.specs.declared.Given.{Given}
-use Rattle.bilqarush.specs.declared.Given.the-variants.{Bound as GivenBound, Stop as GivenStop}
+use Rattle.bilqarush.specs.Calls.{rangeGiven, compareOutcome, cmpBoundOutcome, nonEmptyOutcome, containsOutcome, asPointOutcome}
+use Rattle.bilqarush.specs.Answers.{orderOf, pointAt}
 use Rattle.bilqarush.specs.declared.Compared.the-variants.{Order as Ordered, Stop as ComparedStop}
-use Rattle.bilqarush.specs.declared.Tested.the-variants.{Is, Stop as TestedStop}
 use Rattle.bilqarush.specs.declared.Point.the-variants.{At, Nothing, Stop}
 
 -- ---- keys
-pub key-fits : (l : List ℕ) → length l ≤ 1024 → keyGiven l ≡ answer l
-unfolding keyGiven
-key-fits l h = rw (le-leb (length l) 1024 h)
-
-pub key-long : (l : List ℕ) → 1024 < length l → keyGiven l ≡ stop 3
-unfolding keyGiven
-key-long l h = rw (lt-leb (length l) 1024 h)
-
 module _ (a b : List ℕ) where
   pub first-long : 1024 < length a → orderOf (ComparedStop 3) ≡ compareOutcome a b
   unfolding compareOutcome
@@ -55,52 +46,6 @@ module _ (a b : List ℕ) where
 pub ruleset compare-exits = (first-long, second-long, compared)
 
 -- ---- bounds
-none-left : (l : List ℕ) → length l ≤ 0 → nothingLeft l ≡ answer unbounded
-none-left [] h = refl
-none-left (x ∷ l) h = absurd (omega arith)
-
-some-left : (l : List ℕ) → 0 < length l → nothingLeft l ≡ stop 1
-some-left [] h = absurd (omega arith)
-some-left (x ∷ l) h = refl
-
-module _ (l : List ℕ) {k : ℕ} where
-  pub free-large : k ≡ 0 → 65536 < length l → givenOf l (GivenStop 3) ≡ boundGiven k l
-  unfolding boundGiven
-  free-large e h = rw (e, lt-leb (length l) 65536 h)
-
-  pub free-left : k ≡ 0 → length l ≤ 65536 → 0 < length l → givenOf l (GivenStop 1) ≡ boundGiven k l
-  unfolding boundGiven
-  free-left e h n = rw (e, le-leb (length l) 65536 h, some-left l n)
-
-  pub free-bound : k ≡ 0 → length l ≤ 65536 → length l ≤ 0 → givenOf l (GivenBound Unbounded) ≡ boundGiven k l
-  unfolding boundGiven
-  free-bound e h n = rw (e, le-leb (length l) 65536 h, none-left l n)
-
-  pub in-long : k ≡ 1 → 1024 < length l → givenOf l (GivenStop 3) ≡ boundGiven k l
-  unfolding boundGiven
-  in-long e h = rw (e, key-long l h)
-
-  pub in-bound : k ≡ 1 → length l ≤ 1024 → givenOf l (GivenBound Included) ≡ boundGiven k l
-  unfolding boundGiven
-  in-bound e h = rw (e, key-fits l h)
-
-  pub ex-long : k ≡ 2 → 1024 < length l → givenOf l (GivenStop 3) ≡ boundGiven k l
-  unfolding boundGiven
-  ex-long e h = rw (e, key-long l h)
-
-  pub ex-bound : k ≡ 2 → length l ≤ 1024 → givenOf l (GivenBound Excluded) ≡ boundGiven k l
-  unfolding boundGiven
-  ex-bound e h = rw (e, key-fits l h)
-
-pub bad-kind : (l : List ℕ) (k : ℕ) → NoneOf k (2 ∷ 1 ∷ 0 ∷ []) → givenOf l (GivenStop 2) ≡ boundGiven k l
-unfolding boundGiven
-bad-kind l zero h = absurd (h .0 .0 .1 refl)
-bad-kind l (suc zero) h = absurd (h .0 .1 refl)
-bad-kind l (suc (suc zero)) h = absurd (h .1 refl)
-bad-kind l (suc (suc (suc n))) h = refl
-
-pub ruleset given-exits = (free-large, free-left, free-bound, in-long, in-bound, ex-long, ex-bound, bad-kind)
-
 module _ (ka : ℕ) (a : List ℕ) (kb : ℕ) (b : List ℕ) (start : Bool) (g : Given) (e : givenOf a g ≡ boundGiven ka a) where
   pub first-stops : {n : ℕ} → g ≡ GivenStop n → orderOf (ComparedStop n) ≡ cmpBoundOutcome ka a kb b start
   unfolding cmpBoundOutcome

@@ -3,32 +3,31 @@
 use Prim.Native.Nat.{ℕ, _≤_, _<_}
 use native.Mathlib.Omega.{arith}
 use mathlib.Core.Path.{_≡_, refl, sym, ap, _∙_}
-use mathlib.Core.Bool.{Bool, true, false, _&&_}
-use mathlib.Core.List.{List, []}
+use mathlib.Core.Bool.{Bool, true, false}
+use mathlib.Core.List.{List}
 use lib.ListN.{length}
-use lib.Dec.{T, ltb}
-use borrow.Author.Tests.{lt-ltb, le-ltb, ltb-false}
-use Rattle.base.specs.Pick.{pick, and-first, and-second}
+use lib.Dec.{ltb}
+use borrow.Author.Tests.{le-ltb, ltb-false}
+use Rattle.base.specs.Pick.{pick}
 use Rattle.base.specs.Bytes.{Bytes}
-use Rattle.base.specs.Outcome.{Outcome, answer, check, andThen, lent, writtenTo, reported}
+use Rattle.base.specs.Outcome.{check, andThen, lent, writtenTo, reported}
 use Rattle.base.specs.Outcome as outcome
 use Rattle.base.specs.declared.Written.{Written}
-use Rattle.base.specs.declared.Written.the-variants.{Wrote, Stop}
-use Rattle.format.specs.Got.{got}
+use Rattle.base.specs.declared.Written.the-variants.{Stop}
 use Rattle.format.specs.Whole.{whole}
 use Rattle.records.specs.Values.{Image, Job}
-use Rattle.records.specs.Found.{isGot, valuesOf}
+use Rattle.records.specs.Found.{valuesOf}
 use Rattle.records.specs.Layouts.{image, job}
 use Rattle.manifest.specs.Checks.{Checks, checked, joined, imageChecks, jobChecks}
 use Rattle.manifest.specs.Faults.{faultOf, least}
-use Rattle.manifest.specs.Spans.{outcomeFault, judgedWhole, JudgedWhole}
+use Rattle.manifest.specs.Spans.{judgedWhole, JudgedWhole}
 use Rattle.manifest.specs.declared.images.Judged.{Judged}
 use Rattle.manifest.specs.declared.images.Judged.the-variants.{At as JudgedAt, Stop as JudgedStop}
 use Rattle.manifest.proofs.Steps.{least-joined, fault-stops, fault-passes}
 use Rattle.manifest.proofs.Given.{Whole, whole-read, Numbered, numbered, stopped-is}
 use Rattle.progress.specs.Spans.{jobIn}
 use Rattle.incremental_progress.specs.Commit.{applied, committed, commitOutcome}
-use Rattle.apply.specs.Stages.{Passed, Read, appliedOutcome}
+use Rattle.apply.specs.Stages.{Read, appliedOutcome}
 
 -- no check fails where the number is 8
 record AllPass (c : Checks) : Type 0 where

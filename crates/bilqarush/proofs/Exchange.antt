@@ -10,7 +10,8 @@ use Rattle.key.proofs.Linear.{sign-swap, key-order-is-total}
 use Rattle.comparable_range.specs.Range.{cmpBound}
 use Rattle.comparable_range.proofs.ByCuts.{cmp-bound-negates}
 use Rattle.format.specs.Whole.{keyGiven}
-use Rattle.bilqarush.specs.Calls.{boundGiven, compareOutcome, cmpBoundOutcome}
+use Rattle.format.specs.Given.{boundGiven}
+use Rattle.bilqarush.specs.Calls.{compareOutcome, cmpBoundOutcome}
 use Rattle.bilqarush.specs.Exchange.{Exchanged, CompareExchanged, CmpBoundExchanged}
 
 no-answer : {A : Type 0} {B : Type 0} {n : ℕ} {a : A} → stop n ≡ answer a → B

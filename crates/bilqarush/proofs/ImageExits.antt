@@ -22,7 +22,7 @@ use Rattle.manifest.specs.declared.images.Judged.{Judged}
 use Rattle.manifest.specs.declared.images.Judged.the-variants.{At as JudgedAt, Stop as JudgedStop}
 use Rattle.manifest.proofs.Given.{not-read, refused, accepted, image-there}
 use Rattle.db_state.specs.Places.{viewGiven}
-use Rattle.db_state.specs.Spans.{viewOutcome, ViewPlaced}
+use Rattle.sst_view.specs.Spans.{viewOutcome, ViewPlaced}
 use Rattle.listing.specs.Listing.{listing}
 use Rattle.bilqarush.specs.ImageCalls.{checkImageOutcome, compactedEffectiveRangeOutcome, ViewRangeFound, listOutcome}
 use Rattle.bilqarush.specs.declared.images.ViewRange.the-variants.{At, Stop as RangeStop}
@@ -50,9 +50,9 @@ module _ (s : List ℕ) (run-place place : ℕ) {r : ViewRead} (x : ViewPlaced s
   unfolding compactedEffectiveRangeOutcome
   not-placed q = record { meaning = rw (← (x .meaning), q); inside = tt }
 
-  module _ {v : ViewSpan} {next : ℕ} (q : r ≡ ViewAt v next) where
+  module _ {v : ViewSpan} (q : r ≡ ViewAt v) where
     pub placed-inside : ViewInside s v
-    placed-inside = (rw q at (x .inside)) .0
+    placed-inside = rw q at (x .inside)
 
     pub range-of : {e : RangeSpan} → EffectiveFound s v e → ViewRangeFound s (compactedEffectiveRangeOutcome s run-place place) (At (e .start) (e .end))
     unfolding compactedEffectiveRangeOutcome

@@ -7,9 +7,5 @@ pub mod Answered
 pub mod ImageExits
 pub mod Example
 pub mod CommitExits
-pub mod Stopping
-pub mod Stops
 pub mod Exchange
 pub mod Lines
-pub mod Reached
-pub mod Crowded

@@ -23,11 +23,12 @@ use Rattle.format.specs.declared.span.RangeSpan.{RangeSpan}
 use Rattle.format.specs.declared.span.Supplied.{Supplied}
 use Rattle.format.proofs.Spans.{side-inside, side-bound}
 use Rattle.bilqarush.specs.Calls.{Pair, rangesGiven, joint, intersectOutcome, startKeyOf, endKeyOf, intersectStartKeyOutcome, intersectEndKeyOutcome, unionOutcome}
-use Rattle.bilqarush.specs.Answers.{BothFound, joinedBy, jointOf, JointInside, JointFound, stopNumber, stopOf, keyOf, PartFound}
+use Rattle.format.specs.Span.{jointOf, JoinedInside, JointFound}
+use Rattle.bilqarush.specs.Answers.{BothFound, joinedBy, stopNumber, stopOf, keyOf, PartFound}
 use Rattle.bilqarush.specs.declared.Both.{Both}
 use Rattle.bilqarush.specs.declared.Both.the-variants.{Ranges, Stop as BothStop}
-use Rattle.bilqarush.specs.declared.Joined.{Joined}
-use Rattle.bilqarush.specs.declared.Joined.the-variants.{Range as Found, Nothing, Stop}
+use Rattle.format.specs.declared.span.Joined.{Joined}
+use Rattle.format.specs.declared.span.Joined.the-variants.{Range as Found, Nothing, Stop}
 use Rattle.bilqarush.proofs.Checks.{range-stops, range-is, start-inside, end-inside}
 
 -- ---- ranges_given
@@ -103,7 +104,7 @@ module _ {a b : List ℕ} {r : Both} (w : BothFound a b r) {x y : RangeSpan} (q 
   meant NoSides = refl
   meant (From s e) = rw (side-bound s a b (x .start) (y .start) refl refl refl, side-bound e a b (x .end) (y .end) refl refl refl)
 
-  within : (i : Sides) → JointInside a b (joinedBy i x y)
+  within : (i : Sides) → JoinedInside a b (joinedBy i x y)
   within NoSides = tt
   within (From s e) =
       (side-inside s a b (x .start) (y .start) refl refl in-1 in-3, side-inside e a b (x .end) (y .end) refl refl in-2 in-4)
@@ -135,7 +136,7 @@ pub ruleset join-exits = (in-1, in-2, in-3, in-4, intersection, union-made, no-i
 
 -- ---- the keys of an intersection
 module _ (a b : List ℕ) {r : Joined} where
-  module _ {x y : Supplied} (q : r ≡ Found x y) (w : JointInside a b r) where
+  module _ {x y : Supplied} (q : r ≡ Found x y) (w : JoinedInside a b r) where
     pub start-place : SuppliedInside a b x
     start-place = (rw q at w) .0
 

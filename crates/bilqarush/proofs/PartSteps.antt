@@ -31,12 +31,13 @@ use denote.Triple.Spec.{tripleOf}
 use denote.Triple.Walked.{says}
 use denote.Triple.Clauses.{ensured, lasts}
 use Rattle.bilqarush.specs.Calls.{intersectOutcome}
-use Rattle.bilqarush.specs.Answers.{JointFound, JointInside, stopNumber}
-use Rattle.bilqarush.specs.declared.Joined.{Joined}
+use Rattle.format.specs.Span.{JointFound, JoinedInside}
+use Rattle.bilqarush.specs.Answers.{stopNumber}
+use Rattle.format.specs.declared.span.Joined.{Joined}
 use Rattle.bilqarush.specs.declared.KeyPart.{KeyPart}
 use Rattle.bilqarush.proofs.KeyPart.Laws as T′
-use Rattle.bilqarush.proofs.Joined as J
-use Rattle.bilqarush.proofs.Joined.Laws as J′
+use Rattle.format.proofs.span.Joined as J
+use Rattle.format.proofs.span.Joined.Laws as J′
 use Rattle.bilqarush.proofs.intersect as both
 use Rattle.bilqarush.proofs.stop_number as number
 use Rattle.bilqarush.proofs.start_part as part
@@ -129,7 +130,7 @@ module _ {M : Type 1} (𝓤 : URA M) (H : Heap 𝓤) (A : Atoms 𝓤) (W : Given
   abbrev pub to-part : Joined → Val → Part 𝓤 H A mem run .Ghost
   to-part j u = (((κ, tt), (q, tt), tt, (a, (b, (j, tt))), with-joined u), tt)
 
-  pub goes-part : (j : Joined) (u : Val) → Is J.the-row j (u ∷ []) → JointInside (now a) (now b) j → ent 𝓤 (⋆ 𝓤 H A (token 𝓤 κ q ∷ ‵ kept ∷ [])) (sep 𝓤 (Part 𝓤 H A mem run .pre (to-part j u)) (sem 𝓤 H A kept))
+  pub goes-part : (j : Joined) (u : Val) → Is J.the-row j (u ∷ []) → JoinedInside (now a) (now b) j → ent 𝓤 (⋆ 𝓤 H A (token 𝓤 κ q ∷ ‵ kept ∷ [])) (sep 𝓤 (Part 𝓤 H A mem run .pre (to-part j u)) (sem 𝓤 H A kept))
   goes-part j u is inside =
       qed W (token 𝓤 κ q ∷ ‵ kept ∷ []) ∵ move ! (1 ∷ []) $ use1 W (‵ kept ⊛ ‵ kept) twice $ split ! $ fsplit ! $
       -- [a; b; kept; token]

@@ -15,11 +15,12 @@ use Rattle.format.specs.Range.{rangeIn, writeRange, RangeWhole}
 use Rattle.format.specs.declared.range.BoundSpan.{BoundSpan}
 use Rattle.format.specs.declared.range.RangeRead.{RangeRead}
 use Rattle.format.specs.declared.range.RangeRead.the-variants.{At as RangeAt, Stop as RangeStop}
+use Rattle.format.proofs.GivenExits.{key-fits, key-long}
 use Rattle.bytes_range.specs.Prefix.{fromPrefixAndSubrange}
 use Rattle.bytes_range.specs.Writing.{joinsWithin, joinedTo}
 use Rattle.bytes_range.proofs.Begins.{whole-subrange-is-from-prefix}
 use Rattle.bilqarush.specs.Calls.{fromPrefixOutcome, fromPrefixAndSubrangeOutcome}
-use Rattle.bilqarush.proofs.Checks.{key-fits, key-long, range-stops, range-is, start-inside, end-inside}
+use Rattle.bilqarush.proofs.Checks.{range-stops, range-is, start-inside, end-inside}
 
 module _ (p d : List ℕ) where
   pub prefix-long : 1024 < length p → Stop 3 ≡ reported (fromPrefixOutcome p (length d))

@@ -1,52 +1,37 @@
 -- What the enum that a call answers says: the number of a stop, or values that stand in the slices it was lent.
-use Prim.Native.Nat.{ℕ, _+_, _≤_}
+use Prim.Native.Nat.{ℕ}
 use mathlib.Core.Path.{_≡_}
-use mathlib.Core.Bool.{Bool}
 use mathlib.Core.Option.{Option, none, some}
 use mathlib.Core.List.{List, []}
 use lib.IntN.{ℤ}
-use lib.ListN.{length, take, drop}
+use lib.ListN.{length}
 use denote.Ref.{now}
 use Rattle.base.specs.Outcome.{Outcome, stop, answer}
 use Rattle.key.specs.Order.{Key}
-use Rattle.comparable_range.specs.Range.{Bound, boundOf, of}
+use Rattle.comparable_range.specs.Range.{of}
 use Rattle.comparable_range.specs.declared.Side.{Side}
 use Rattle.comparable_range.specs.declared.Sides.{Sides}
 use Rattle.comparable_range.specs.declared.Sides.the-variants.{Nothing as NoSides, From}
 use Rattle.format.specs.Range.{rangeIn, BoundInside}
-use Rattle.format.specs.Joint.{Joint}
-use Rattle.format.specs.Span.{SuppliedInside, supplyIn}
 use Rattle.format.specs.declared.range.BoundSpan.{BoundSpan}
 use Rattle.format.specs.declared.span.RangeSpan.{RangeSpan}
 use Rattle.format.specs.declared.span.Supplied.{Supplied}
 use Rattle.bilqarush.specs.Calls.{Pair, rangesGiven}
-use Rattle.bilqarush.specs.declared.Given.{Given}
-use Rattle.bilqarush.specs.declared.Given.the-variants.{Bound as GivenBound, Stop as GivenStop}
 use Rattle.bilqarush.specs.declared.Both.{Both}
 use Rattle.bilqarush.specs.declared.Both.the-variants.{Ranges, Stop as BothStop}
 use Rattle.bilqarush.specs.declared.Compared.{Compared}
 use Rattle.bilqarush.specs.declared.Compared.the-variants.{Order, Stop as ComparedStop}
-use Rattle.bilqarush.specs.declared.Tested.{Tested}
-use Rattle.bilqarush.specs.declared.Tested.the-variants.{Is, Stop as TestedStop}
 use Rattle.bilqarush.specs.declared.Point.{Point}
 use Rattle.bilqarush.specs.declared.Point.the-variants.{At, Nothing as NoPoint, Stop as PointStop}
-use Rattle.bilqarush.specs.declared.Joined.{Joined}
-use Rattle.bilqarush.specs.declared.Joined.the-variants.{Range, Nothing, Stop}
+use Rattle.format.specs.declared.span.Joined.{Joined}
+use Rattle.format.specs.declared.span.Joined.the-variants.{Range, Nothing, Stop}
 use Rattle.bilqarush.specs.declared.KeyPart.{KeyPart}
 
 abbrev pub orderOf : Compared → Outcome ℤ
 orderOf (Order z) = answer z
 orderOf (ComparedStop n) = stop n
 
-abbrev pub testOf : Tested → Outcome Bool
-testOf (Is t) = answer t
-testOf (TestedStop n) = stop n
-
 -- ---- what the code keeps of its arguments
-abbrev pub givenOf : Key → Given → Outcome Bound
-givenOf k (GivenBound j) = answer (boundOf j k)
-givenOf k (GivenStop n) = stop n
-
 abbrev pub bothOf : List ℕ → List ℕ → Both → Outcome Pair
 bothOf a b (Ranges r q) =
     answer (record { first = rangeIn a (r .start) (r .end); second = rangeIn b (q .start) (q .end) })
@@ -73,21 +58,6 @@ abbrev pub pointAt : Outcome (Option Key) → Point
 pointAt (stop n) = PointStop n
 pointAt (answer none) = NoPoint
 pointAt (answer (some k)) = At 3 (length k)
-
--- ---- a range whose bounds are parts of the slices a and b
-abbrev pub jointOf : List ℕ → List ℕ → Joined → Outcome (Option Joint)
-jointOf a b (Range s e) = answer (some (record { start = supplyIn a b s; end = supplyIn a b e }))
-jointOf a b Nothing = answer none
-jointOf a b (Stop n) = stop n
-
-abbrev pub JointInside : List ℕ → List ℕ → Joined → Type 0
-JointInside a b (Range s e) = SuppliedInside a b s × SuppliedInside a b e
-JointInside a b Nothing = Unit
-JointInside a b (Stop n) = Unit
-
-pub record JointFound (a b : List ℕ) (g : Outcome (Option Joint)) (r : Joined) : Type 0 where
-  pub meaning : jointOf a b r ≡ g
-  pub inside : JointInside a b r
 
 -- ---- the key of a bound of an intersection
 -- the number of the stop that the code answered, 0 for none

@@ -1,18 +1,17 @@
 -- The outcome of each public call: the checks in their order, then the answer. Document 01, "Ranges" and "Stops".
-use Prim.Native.Nat.{ℕ, zero, suc}
+use Prim.Native.Nat.{ℕ}
 use mathlib.Core.Bool.{Bool, _&&_}
 use mathlib.Core.Option.{Option, none, some}
-use mathlib.Core.List.{List, [], _∷_}
+use mathlib.Core.List.{List, []}
 use lib.IntN.{ℤ}
-use lib.ListN.{length}
-use lib.Dec.{leb}
 use Rattle.base.specs.Outcome.{Outcome, stop, answer, andThen, check, writtenTo}
 use Rattle.key.specs.Order.{Key, cmpKey, sign}
-use Rattle.comparable_range.specs.Range.{Bound, unbounded, included, excluded, Range, cmpBound, nonEmpty, holds, of, intersectSides, unionSides}
+use Rattle.comparable_range.specs.Range.{Range, cmpBound, nonEmpty, holds, of, intersectSides, unionSides}
 use Rattle.comparable_range.specs.declared.Sides.{Sides}
 use Rattle.comparable_range.specs.declared.Sides.the-variants.{Nothing, From}
 use Rattle.format.specs.Range.{readRange, writeRange}
 use Rattle.format.specs.Whole.{whole, keyGiven}
+use Rattle.format.specs.Given.{boundGiven}
 use Rattle.format.specs.Joint.{Joint}
 use Rattle.format.specs.Span.{boundKey}
 use Rattle.bytes_range.specs.Prefix.{fromPrefix, asPoint}
@@ -31,18 +30,6 @@ pub record Pair : Type 0 where
 unfoldable pub rangesGiven : List ℕ → List ℕ → Outcome Pair
 rangesGiven a b =
     andThen (whole readRange a) (λ r. andThen (whole readRange b) (λ q. check 4 (nonEmpty r && nonEmpty q) (answer (record { first = r; second = q }))))
-
--- A bound that is an argument of its own: the number of its kind, and its key. An unbounded one has no key, so bytes that
--- are given for it are left over.
-abbrev pub nothingLeft : List ℕ → Outcome Bound
-nothingLeft [] = answer unbounded
-nothingLeft (b ∷ l) = stop 1
-
-unfoldable pub boundGiven : ℕ → List ℕ → Outcome Bound
-boundGiven zero l = check 3 (leb (length l) 65536) (nothingLeft l)
-boundGiven (suc zero) l = andThen (keyGiven l) (λ k. answer (included k))
-boundGiven (suc (suc zero)) l = andThen (keyGiven l) (λ k. answer (excluded k))
-boundGiven (suc (suc (suc n))) l = stop 2
 
 -- ---- the calls
 unfoldable pub compareOutcome : List ℕ → List ℕ → Outcome ℤ

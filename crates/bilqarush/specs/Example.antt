@@ -3,7 +3,6 @@
 use Prim.Native.Nat.{ℕ}
 use mathlib.Core.Path.{_≡_}
 use mathlib.Core.List.{List, [], _∷_}
-use lib.ListN.{length}
 use Rattle.base.specs.Outcome.{answer, stop}
 use Rattle.comparable_range.specs.declared.Kind.the-variants.{Included}
 use Rattle.bilqarush.specs.ImageCalls.{listOutcome, compactedEffectiveRangeOutcome, ViewRangeFound}

@@ -6,7 +6,8 @@ use mathlib.Core.List.{List}
 use lib.IntN.{ℤ, negℤ}
 use Rattle.base.specs.Outcome.{Outcome, stop, answer}
 use Rattle.format.specs.Whole.{keyGiven}
-use Rattle.bilqarush.specs.Calls.{boundGiven, compareOutcome, cmpBoundOutcome}
+use Rattle.format.specs.Given.{boundGiven}
+use Rattle.bilqarush.specs.Calls.{compareOutcome, cmpBoundOutcome}
 
 abbrev pub isRefused : {A : Type 0} → Outcome A → Bool
 isRefused (stop n) = true

@@ -3,6 +3,5 @@ pub mod Answers
 pub mod ImageCalls
 pub mod Example
 pub mod Laws
-pub mod Stops
 pub mod Exchange
 pub mod Lines

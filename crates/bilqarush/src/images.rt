@@ -38,9 +38,9 @@ pub enum ViewRange {
 pub fn compacted_effective_range(image: &[u8], run: usize, view: usize) -> ViewRange
     ensures { λ r. ⌜ ViewRangeFound (now (image .entry)) (compactedEffectiveRangeOutcome (now (image .entry)) run view) r ⌝ }
 {
-    match db_state::view_given(image, run, view) {
+    match sst_view::view_given(image, run, view) {
         ViewRead::Stop(k) => ViewRange::Stop(k),
-        ViewRead::At(v, _) => {
+        ViewRead::At(v) => {
             let e = manifest::effective(image, v);
             let start = e.start;
             let end = e.end;

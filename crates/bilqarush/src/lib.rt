@@ -3,13 +3,17 @@
 // lent as they are.
 mod commits;
 mod images;
+mod lookups;
 
+pub use base::Tested;
 use base::Written;
 pub use commits::commit;
 use comparable_range::Kind;
 use comparable_range::Sides;
+use format::Given;
 use format::RangeRead;
 use format::span;
+pub use format::span::Joined;
 use format::span::RangeSpan;
 use format::span::Supplied;
 pub use images::Checked;
@@ -17,11 +21,26 @@ pub use images::ViewRange;
 pub use images::check_image;
 pub use images::compacted_effective_range;
 pub use images::list;
+pub use lookups::Counted;
+pub use lookups::Covered;
+pub use lookups::Found;
+pub use lookups::Test;
+pub use lookups::calculate_view_range;
+pub use lookups::compacted_intersection;
+pub use lookups::first_partition_including_key;
+pub use lookups::first_partition_including_or_after_key;
+pub use lookups::intersects_range;
+pub use lookups::last_partition_including_key;
+pub use lookups::overlaps_range;
+pub use lookups::partition_point;
+pub use lookups::partitions_covering_range;
+pub use lookups::table_idx_covering_range;
 ghost use mathlib.Core.Path.{_≡_};
 ghost use lib.ListN.{length};
-ghost use Rattle.base.specs.Outcome.{reported, lent};
-ghost use Rattle.bilqarush.specs.Calls.{boundGiven, compareOutcome, cmpBoundOutcome, nonEmptyOutcome, containsOutcome, asPointOutcome, intersectOutcome, startKeyOf, endKeyOf, intersectStartKeyOutcome, intersectEndKeyOutcome, unionOutcome, fromPrefixOutcome, fromPrefixAndSubrangeOutcome};
-ghost use Rattle.bilqarush.specs.Answers.{givenOf, orderOf, testOf, BothFound, joinedBy, pointAt, jointOf, JointInside, JointFound, stopNumber, keyOf, PartFound};
+ghost use Rattle.base.specs.Outcome.{reported, lent, testOf};
+ghost use Rattle.format.specs.Span.{jointOf, JoinedInside, JointFound};
+ghost use Rattle.bilqarush.specs.Calls.{compareOutcome, cmpBoundOutcome, nonEmptyOutcome, containsOutcome, asPointOutcome, intersectOutcome, startKeyOf, endKeyOf, intersectStartKeyOutcome, intersectEndKeyOutcome, unionOutcome, fromPrefixOutcome, fromPrefixAndSubrangeOutcome};
+ghost use Rattle.bilqarush.specs.Answers.{orderOf, BothFound, joinedBy, pointAt, stopNumber, keyOf, PartFound};
 
 // A comparison's answer: -1, 0 or 1, or the number of a stop.
 pub enum Compared {
@@ -29,22 +48,9 @@ pub enum Compared {
     Stop(u8),
 }
 
-// A test's answer.
-pub enum Tested {
-    Is(bool),
-    Stop(u8),
-}
-
 // A point: the place of its key in the lent slice and its length.
 pub enum Point {
     At(usize, usize),
-    Nothing,
-    Stop(u8),
-}
-
-// A range of which each bound stands in one of the two lent slices.
-pub enum Joined {
-    Range(Supplied, Supplied),
     Nothing,
     Stop(u8),
 }
@@ -62,48 +68,13 @@ pub fn compare(a: &[u8], b: &[u8]) -> Compared
     Compared::Order(key::number(key::cmp(a, b)))
 }
 
-// What a bound is that is given by its kind's number and its key.
-pub enum Given {
-    Bound(Kind),
-    Stop(u8),
-}
-
-fn bound_given(kind: u8, key: &[u8]) -> Given
-    ensures { λ r. ⌜ givenOf (now (key .entry)) r ≡ boundGiven kind (now (key .entry)) ⌝ }
-{
-    match kind {
-        0 => {
-            if 65536 < key.len() {
-                return Given::Stop(3);
-            }
-            if 0 < key.len() {
-                return Given::Stop(1);
-            }
-            Given::Bound(Kind::Unbounded)
-        }
-        1 => {
-            if 1024 < key.len() {
-                return Given::Stop(3);
-            }
-            Given::Bound(Kind::Included)
-        }
-        2 => {
-            if 1024 < key.len() {
-                return Given::Stop(3);
-            }
-            Given::Bound(Kind::Excluded)
-        }
-        3..=255 => Given::Stop(2),
-    }
-}
-
 // The order of two bounds, both starts or both ends.
 pub fn cmp_bound(a_kind: u8, a: &[u8], b_kind: u8, b: &[u8], start: bool) -> Compared
     ensures { λ r. ⌜ orderOf r ≡ cmpBoundOutcome «a_kind» (now (a .entry)) «b_kind» (now (b .entry)) start ⌝ }
 {
-    match bound_given(a_kind, a) {
+    match format::bound_given(a_kind, a) {
         Given::Stop(n) => Compared::Stop(n),
-        Given::Bound(ka) => match bound_given(b_kind, b) {
+        Given::Bound(ka) => match format::bound_given(b_kind, b) {
             Given::Stop(n) => Compared::Stop(n),
             Given::Bound(kb) => Compared::Order(key::number(comparable_range::cmp_bound(
                 ka,
@@ -256,7 +227,7 @@ fn stop_number(joined: Joined) -> u8
 
 // The key of an intersection's start, as a part of the slice that supplied it; an empty part where there is none.
 fn start_part<'a>(a: &'a [u8], b: &'a [u8], joined: Joined) -> &'a [u8]
-    requires { ⌜ JointInside (now a) (now b) joined ⌝ }
+    requires { ⌜ JoinedInside (now a) (now b) joined ⌝ }
     ensures { λ r. ⌜ now r ≡ keyOf (startKeyOf (jointOf (now (a .entry)) (now (b .entry)) joined)) ⌝ }
 {
     match joined {
@@ -268,7 +239,7 @@ fn start_part<'a>(a: &'a [u8], b: &'a [u8], joined: Joined) -> &'a [u8]
 
 // The key of its end.
 fn end_part<'a>(a: &'a [u8], b: &'a [u8], joined: Joined) -> &'a [u8]
-    requires { ⌜ JointInside (now a) (now b) joined ⌝ }
+    requires { ⌜ JoinedInside (now a) (now b) joined ⌝ }
     ensures { λ r. ⌜ now r ≡ keyOf (endKeyOf (jointOf (now (a .entry)) (now (b .entry)) joined)) ⌝ }
 {
     match joined {

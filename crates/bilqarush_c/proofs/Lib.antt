@@ -1,3 +1,2 @@
 pub mod TellExits
-pub mod PutExits
-pub mod Example
+pub mod LookupExits

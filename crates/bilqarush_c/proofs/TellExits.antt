@@ -4,28 +4,23 @@ use Prim.Native.Nat.{ℕ}
 use mathlib.Core.Path.{_≡_, refl, sym, ap, _∙_}
 use mathlib.Core.List.{List}
 use mathlib.Core.Option.{Option}
-use lib.IntN.{ℤ}
 use lib.ListN.{length}
 use Rattle.base.specs.Outcome.{Outcome, stop, answer, lent, reported}
 use Rattle.base.specs.declared.Written.{Written}
 use Rattle.format.specs.Joint.{Joint}
 use Rattle.bilqarush.specs.Calls.{asPointOutcome, intersectOutcome, startKeyOf, endKeyOf, intersectStartKeyOutcome, intersectEndKeyOutcome}
-use Rattle.bilqarush.specs.Answers.{stopOf, orderOf, pointAt, jointOf, JointInside, JointFound}
+use Rattle.format.specs.Span.{jointOf, JoinedInside, JointFound}
+use Rattle.bilqarush.specs.Answers.{stopOf, pointAt}
 use Rattle.bilqarush.specs.ImageCalls.{checkedAnswer, compactedEffectiveRangeOutcome, ViewRangeFound}
-use Rattle.bilqarush.specs.declared.Compared.{Compared}
-use Rattle.bilqarush.specs.declared.Compared.the-variants.{Order}
 use Rattle.bilqarush.specs.declared.Point.{Point}
-use Rattle.bilqarush.specs.declared.Joined.{Joined}
+use Rattle.format.specs.declared.span.Joined.{Joined}
 use Rattle.bilqarush.specs.declared.images.Checked.{Checked}
 use Rattle.bilqarush.specs.declared.images.Checked.the-variants.{Accepted, Stop}
 use Rattle.bilqarush.specs.declared.images.ViewRange.{ViewRange}
-use Rattle.bilqarush_c.specs.Told.{slot, sized, counted, Told}
-use Rattle.bilqarush_c.specs.Layouts.{pointTo, joinedTo, viewRangeTo, keyTo, JointTold, ViewRangeTold}
+use Rattle.told.specs.Told.{slot, sized, counted, Told}
+use Rattle.told.specs.Layouts.{pointTo, joinedTo, viewRangeTo, keyTo, JointTold, ViewRangeTold}
 
 -- ---- numbers
-pub order-kept : {c : Compared} {z : ℤ} (before : ℤ) → c ≡ Order z → z ≡ slot before (orderOf c)
-order-kept before e = sym (ap (λ x. slot before (orderOf x)) e)
-
 module _ {A : Type 0} {o p : Outcome A} (e : o ≡ p) where
   pub told-stop : {r : ℕ} → r ≡ stopOf o → r ≡ stopOf p
   told-stop q = q ∙ ap stopOf e
@@ -93,7 +88,7 @@ module _ {d e : List ℕ} {w : Written} {before after r : ℕ} (q : r ≡ stopOf
   view-range-told {v = v} f x y = record { range = v; found = f; told = told x y }
 
 -- where the range that `intersect` answered stands
-pub joint-places : {a b : List ℕ} {g : Outcome (Option Joint)} {j : Joined} → JointFound a b g j → JointInside a b j
+pub joint-places : {a b : List ℕ} {g : Outcome (Option Joint)} {j : Joined} → JointFound a b g j → JoinedInside a b j
 joint-places f = f .inside
 
 -- ---- check_image

@@ -5,8 +5,8 @@ ghost use lib.ListN.{length};
 ghost use Rattle.bilqarush.specs.Answers.{stopOf};
 ghost use Rattle.bilqarush.specs.ImageCalls.{checkImageOutcome, listOutcome};
 ghost use Rattle.incremental_progress.specs.Commit.{commitOutcome};
-ghost use Rattle.bilqarush_c.specs.Told.{Told};
-ghost use Rattle.bilqarush_c.specs.Layouts.{ViewRangeTold};
+ghost use Rattle.told.specs.Told.{Told};
+ghost use Rattle.told.specs.Layouts.{ViewRangeTold};
 
 #[no_mangle]
 pub extern "C" fn bilqarush_check_image(image: &[u8]) -> u8
@@ -29,14 +29,14 @@ pub extern "C" fn bilqarush_compacted_effective_range(
     ensures { λ r. ⌜ ViewRangeTold (now (image .entry)) run view (now (out .entry)) (now (out .exit)) (now (written .entry)) (now (written .exit)) r ⌝ }
 {
     let range = bilqarush::compacted_effective_range(image, run, view);
-    crate::tell(crate::answers::put_view_range(range, out), written)
+    told::tell(told::answers::put_view_range(range, out), written)
 }
 
 #[no_mangle]
 pub extern "C" fn bilqarush_list(image: &[u8], out: &mut [u8], written: &mut usize) -> u8
     ensures { λ r. ⌜ Told (listOutcome (now (image .entry)) (length (now (out .entry)))) (now (out .entry)) (now (out .exit)) (now (written .entry)) (now (written .exit)) r ⌝ }
 {
-    crate::tell(bilqarush::list(image, out), written)
+    told::tell(bilqarush::list(image, out), written)
 }
 
 #[no_mangle]
@@ -49,5 +49,5 @@ pub extern "C" fn bilqarush_commit<'a>(
 ) -> u8
     ensures { λ r. ⌜ Told (commitOutcome (now (image .entry)) (now (job .entry)) (now (ids .entry)) (length (now (out .entry)))) (now (out .entry)) (now (out .exit)) (now (written .entry)) (now (written .exit)) r ⌝ }
 {
-    crate::tell(bilqarush::commit(image, job, ids, out), written)
+    told::tell(bilqarush::commit(image, job, ids, out), written)
 }

@@ -76,20 +76,20 @@ module _ {s : List ℕ} {from n : ℕ} {i j : BoundSpan} {k at : ℕ} {inside : 
     pub outputs-never : {m : ℕ} → r ≡ TableStop m → OutputsFound s (readMany (table .read) n (drop from s)) (endCut (boundIn s j)) (startCut (boundIn s i)) (record { inside = inside; next = at })
     outputs-never {m} q = absurd (walk-never (p .walk) h {j = m} (sym (f .meaning) ∙ rw q))
 
-    module _ {t : TableSpan} {next : ℕ} (q : r ≡ TableAt t next) where
+    module _ {t : TableSpan} (q : r ≡ TableAt t) where
       pub output-in : TableInside s t
-      output-in = (rw q at (f .inside)) .0
+      output-in = rw q at (f .inside)
 
       pub outputs-onward :
           {a d : Bool} {l : BoundSpan}
           → a ≡ outputBetween (endCut (boundIn s j)) (startCut (boundIn s before)) (tableIn s t)
           → d ≡ (inside && a)
           → l ≡ lastSpan t
-          → OutputsSeen s from n i j (k + 1) next d l
+          → OutputsSeen s from n i j (k + 1) (t .past) d l
       outputs-onward {a} {d} {l} ha hd hl =
           record {
             seen = p .seen ++ (tableIn s t ∷ []);
-            walk = walk-onward (p .walk) h (sym (f .meaning) ∙ rw q) ((rw q at (f .inside)) .1);
+            walk = walk-onward (p .walk) h (sym (f .meaning) ∙ rw q) ((rw q at (f .inside)) .past);
             so-far = hd ∙ rw (ha, p .so-far, p .last) (sym (outputs-more (endCut (boundIn s j)) (startCut (boundIn s i)) (p .seen) (tableIn s t)));
             last = ap (λ b. startCut (boundIn s b)) hl ∙ last-start (t .flagged) (take (t .«last_len») (drop (t .«last_at») s)) ∙ sym (past-more outputCut (startCut (boundIn s i)) (p .seen) (tableIn s t));
             last-in = rw hl (output-in .last);

@@ -28,10 +28,10 @@ use Rattle.records.specs.declared.runs.CountRead.the-variants.{At as CountAt, S
 use Rattle.records.proofs.FieldExits.{number-is}
 use Rattle.records.proofs.HeadExits.{runOf, image-is}
 use Rattle.records.proofs.Walk.{Walk, walk-begin, walk-all, walk-never, walk-here, walk-onward}
-use Rattle.records.proofs.There.{run-stops, views-place, views-there, run-past}
+use Rattle.records.proofs.RunsThere.{run-stops, views-place, views-there, run-past}
 use Rattle.manifest.specs.Checks.{all, has}
 use Rattle.manifest.proofs.ImageExits.{Unshared, unshared-none, id-in, unshared-more, count-most, first-place}
-use Rattle.db_state.specs.Spans.{Past}
+use Rattle.records.specs.There.{Past}
 use Rattle.compactor_state.specs.Faults.{runIds, allAmong}
 
 -- ---- ids of 4 bytes

@@ -87,11 +87,11 @@ fn outputs_between(s: &[u8], from: usize, n: usize, planned: RangeSpan) -> Outpu
             TableRead::Stop(_) => {
                 return Outputs { inside, next: at };
             }
-            TableRead::At(t, next) => {
+            TableRead::At(t) => {
                 let last = last_bound(t);
                 inside = both(inside, output_between(s, before, planned.end, t));
                 before = last;
-                at = next;
+                at = t.past;
                 seen += 1;
             }
         }

@@ -77,7 +77,7 @@ fn all_runs(given: &[u8], first: usize, m: usize, s: &[u8], from: usize, n: usiz
             }
             RunRead::At { id, views, next } => {
                 ids[seen] = id;
-                at = db_state::views_end(given, next, views);
+                at = records::views_end(given, next, views);
                 seen += 1;
             }
         }

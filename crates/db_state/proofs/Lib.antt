@@ -1,2 +1,6 @@
-pub mod Nth
-pub mod PlaceExits
+pub mod ViewLookups
+pub mod Intersects
+pub mod RunLookups
+pub mod CoveredPlaces
+pub mod LookupExamples
+pub mod FoundTables

@@ -1,2 +1,5 @@
 pub mod Places
-pub mod Spans
+pub mod Lookup
+pub mod LookupCalls
+pub mod LookupLaws
+pub mod LookupExamples

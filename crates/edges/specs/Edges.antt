@@ -13,6 +13,9 @@ use Rattle.comparable_range.specs.Range.{Bound, unbounded, included, excluded, 
 use Rattle.comparable_range.specs.Laws.{keyless}
 use Rattle.format.specs.Range.{writeRange}
 use Rattle.records.specs.Values.{Part}
+use Rattle.records.specs.Layouts.{index}
+use Rattle.partitioned_keyspace.specs.Partitions.{Places}
+use Rattle.partitioned_keyspace.specs.Calls.{partitionsCoveringRangeOutcome}
 use Rattle.incremental_progress.specs.Intervals.{Interval, subtractFrom}
 use Rattle.incremental_progress.specs.Parts.{durable}
 use Rattle.bilqarush.specs.Calls.{cmpBoundOutcome, nonEmptyOutcome, containsOutcome, fromPrefixOutcome}
@@ -25,6 +28,7 @@ pub data Answer : Type 0 where
   bytes : List ℕ → Answer
   ranges : List Range → Answer
   interval : Option Interval → Answer
+  places : ℕ → ℕ → Answer
 
 abbrev test : Outcome Bool → Answer
 test (outcome.stop n) = stop n
@@ -36,7 +40,11 @@ comparison (outcome.answer z) = order z
 
 abbrev writing : Outcome (List ℕ) → Answer
 writing (outcome.stop n) = stop n
-writing (outcome.answer b) = bytes b
+writing (outcome.answer l) = bytes l
+
+abbrev covering : Outcome Places → Answer
+covering (outcome.stop n) = stop n
+covering (outcome.answer p) = places (p .start) (p .end)
 
 pub record Edge : Type 0 where
   pub answered : Answer
@@ -44,7 +52,7 @@ pub record Edge : Type 0 where
 
 infix 40 _∶_
 abbrev _∶_ : Answer → Answer → Edge
-a ∶ b = record { answered = a; expected = b }
+x ∶ y = record { answered = x; expected = y }
 
 -- ---- the inputs
 abbrev a : Key
@@ -53,8 +61,14 @@ a = 97 ∷ []
 abbrev a00 : Key
 a00 = 97 ∷ 0 ∷ []
 
+abbrev b : Key
+b = 98 ∷ []
+
 abbrev c : Key
 c = 99 ∷ []
+
+abbrev d : Key
+d = 100 ∷ []
 
 abbrev f : Key
 f = 102 ∷ []
@@ -82,6 +96,9 @@ range s e = record { start = s; end = e }
 abbrev image : Bound → Bound → List ℕ
 image s e = writeRange (range s e)
 
+abbrev indexOf : List Key → List ℕ
+indexOf ks = index .write (map (λ k. record { offset = 0; first = k }) ks)
+
 -- ---- the rows
 unfoldable pub edges : List Edge
 edges =
@@ -97,6 +114,11 @@ edges =
     -- prefix 61 FF ends before 62; FF FF is unbounded
     ∷ (writing (fromPrefixOutcome (97 ∷ 255 ∷ []) 8) ∶ bytes (image (included (97 ∷ 255 ∷ [])) (excluded (98 ∷ []))))
     ∷ (writing (fromPrefixOutcome (255 ∷ 255 ∷ []) 5) ∶ bytes (image (included (255 ∷ 255 ∷ [])) unbounded))
+    -- first keys a,b,b,d: point b gives 0..3; - to b) gives 0..2
+    ∷ (covering (partitionsCoveringRangeOutcome (indexOf (a ∷ b ∷ b ∷ d ∷ [])) (image (included b) (included b))) ∶ places 0 3)
+    ∷ (covering (partitionsCoveringRangeOutcome (indexOf (a ∷ b ∷ b ∷ d ∷ [])) (image unbounded (excluded b))) ∶ places 0 2)
+    -- first key b: point a gives 0..0
+    ∷ (covering (partitionsCoveringRangeOutcome (indexOf (b ∷ [])) (image (included a) (included a))) ∶ places 0 0)
     -- [a,z] less [c,f): [a,c), [f,z]; [c,f] less it: [f,f]
     ∷ (ranges (subtractFrom fromCtoF (range (included a) (included z))) ∶ ranges (range (included a) (excluded c) ∷ range (included f) (included z) ∷ []))
     ∷ (ranges (subtractFrom fromCtoF (range (included c) (included f))) ∶ ranges (range (included f) (included f) ∷ []))

@@ -2,6 +2,7 @@
 // rows of one list, in specs/Edges.antt.
 use base::Written;
 use bilqarush::Compared;
+use bilqarush::Covered;
 use bilqarush::Tested;
 
 fn print_stop(n: u8) {
@@ -69,6 +70,21 @@ fn print_range(name: &[u8], out: &[u8], w: Written) {
     }
 }
 
+// The partitions from one place up to, without, another.
+fn print_places(name: &[u8], c: Covered) {
+    io::write_all(1, name);
+    match c {
+        Covered::Stop(n) => print_stop(n),
+        Covered::Places(start, end) => {
+            io::write_all(1, b": ");
+            io::print_decimal(1, start as u64);
+            io::write_all(1, b"..");
+            io::print_decimal(1, end as u64);
+            io::write_all(1, b"\n");
+        }
+    }
+}
+
 fn ranges() {
     print_test(
         b"[a,a) passes",
@@ -116,6 +132,25 @@ fn prefixes() {
     print_range(b"prefix ffff", &next, v);
 }
 
+// Indexes of blocks at offset 0.
+fn partitions() {
+    let four =
+        b"\x00\x04\x00\x00\x00\x00\x00\x00\x00\x00\x00\x01a\x00\x00\x00\x00\x00\x00\x00\x00\x00\x01b\x00\x00\x00\x00\x00\x00\x00\x00\x00\x01b\x00\x00\x00\x00\x00\x00\x00\x00\x00\x01d";
+    print_places(
+        b"first keys a,b,b,d: point b",
+        bilqarush::partitions_covering_range(four, b"\x50\x00\x01b\x00\x01b"),
+    );
+    print_places(
+        b"first keys a,b,b,d: - to b)",
+        bilqarush::partitions_covering_range(four, b"\x20\x00\x01b"),
+    );
+    let one = b"\x00\x01\x00\x00\x00\x00\x00\x00\x00\x00\x00\x01b";
+    print_places(
+        b"first key b: point a",
+        bilqarush::partitions_covering_range(one, b"\x50\x00\x01a\x00\x01a"),
+    );
+}
+
 // Keys at the ceiling, and past it.
 fn keys() {
     let longest = [97u8; 1024];
@@ -160,6 +195,7 @@ fn main() {
     ranges();
     bounds();
     prefixes();
+    partitions();
     keys();
     buffers();
 }

@@ -1,10 +1,10 @@
 -- What the loop of `front` keeps, over any width n: v is the number of the bytes read so far. And the exits of `number_at`.
 -- Assumes nothing.
 use Prim.Native.Nat.{ℕ, suc, _+_, _*_, _-_, _^_, _<_, _≤_}
-use native.Mathlib.Nat.{mul-le-mul-right, mul-le-mul-left, pow-succ', one-le-pow, pow-le-pow-right, sub-zero, le-antisymm, zero-add}
+use native.Mathlib.Nat.{mul-le-mul-right, mul-le-mul-left, pow-succ', one-le-pow, pow-le-pow-right, sub-zero, le-antisymm}
 use native.Mathlib.Numerals.{add-one}
 use native.Mathlib.Omega.{arith}
-use mathlib.Core.Path.{_≡_, refl, sym, _∙_}
+use mathlib.Core.Path.{_≡_, refl, sym}
 use mathlib.Core.List.{List}
 use lib.ListN.{length, getD, take, drop, length-drop, drop-of-length-le}
 use lib.Seq.{take-all, slice, slice-cons, slice-empty, drop-drop}
@@ -13,13 +13,9 @@ use mir.Val.{Fits}
 use mir.Syntax.{w64}
 use borrow.Author.Tests.{le-leb, lt-leb}
 use Rattle.key.specs.Word.{digits}
+use Rattle.format.specs.Got.{got}
 use Rattle.format.specs.Number.{readNumber, numberOf}
-use Rattle.format.specs.declared.Number.{Number}
 use Rattle.format.specs.declared.Number.the-variants.{Value, Short}
-
-pub too-short : (l : List ℕ) (n : ℕ) → length l < n → numberOf n l 0 Short ≡ readNumber n l
-unfolding readNumber
-too-short l n h = rw (lt-leb n (length l) h)
 
 pub record Reading (l : List ℕ) (n i v : ℕ) : Type 0 where
   pub room : n ≤ length l
@@ -31,10 +27,9 @@ pub start : {l : List ℕ} {n : ℕ} → n ≤ length l → Reading l n 0 0
 start {l} {n} h = record { room = h; upto = omega arith; rest = refl; small = rw sub-zero (omega arith) }
 
 module _ {l : List ℕ} {n i v : ℕ} (p : Reading l n i v) where
-  pub read-all : n ≤ i → numberOf n l 0 (Value v) ≡ readNumber n l
-  unfolding readNumber digits
-  read-all h =
-      rw (le-leb n (length l) (p .room), ← (p .rest), le-antisymm (p .upto) h, slice-empty, zero-add)
+  pub read-all : n ≤ i → v ≡ digits 0 (take n l)
+  unfolding digits
+  read-all h = rw (← (p .rest), le-antisymm (p .upto) h, slice-empty)
 
   power : i < n → 256 ^ (n - i) ≡ 256 * 256 ^ (n - (i + 1))
   power h = let e : n - i ≡ suc (n - (i + 1)) = omega arith in rw (e, pow-succ')
@@ -61,19 +56,25 @@ module _ {l : List ℕ} {n i v : ℕ} (p : Reading l n i v) where
         small = omega (arith, rw power at (p .small), mul-le-mul-right (256 ^ (n - (i + 1))) m);
       }
 
-pub ruleset kept = (too-short, start, read-all, product-fits, sum-fits, one-more)
+pub ruleset kept = (start, read-all, product-fits, sum-fits, one-more)
 
--- a number of a part of s is the number at the part's place
-moved : (n : ℕ) (s : List ℕ) (at : ℕ) (r : Number) → numberOf n (drop at s) 0 r ≡ numberOf n s at r
-moved n s at (Value v) = rw (zero-add, drop-drop)
-moved n s at Short = refl
+-- ---- number_at and number_there
+module _ (s : List ℕ) (at n : ℕ) where
+  pub number-past : length s < at → 0 < n → numberOf n s at Short ≡ readNumber n (drop at s)
+  unfolding readNumber
+  number-past h k = rw (drop-of-length-le s {i = at} (omega arith), lt-leb n 0 k)
 
-pub from-here : (n : ℕ) (s : List ℕ) (at : ℕ) (r : Number) → numberOf n (take (length s - at) (drop at s)) 0 r ≡ readNumber n (take (length s - at) (drop at s)) → numberOf n s at r ≡ readNumber n (drop at s)
-from-here n s at r e =
-    sym (moved n s at r) ∙ (rw (take-all (length s - at) (drop at s) (rw length-drop (omega arith))) at e)
+  pub number-cut : at ≤ length s → length s - at < n → numberOf n s at Short ≡ readNumber n (drop at s)
+  unfolding readNumber
+  number-cut h l = rw (length-drop, lt-leb n (length s - at) l)
 
-pub past-end : (n : ℕ) (s : List ℕ) (at : ℕ) (r : Number) → length s < at → numberOf n (take 0 s) 0 r ≡ readNumber n (take 0 s) → numberOf n s at r ≡ readNumber n (drop at s)
-past-end n s at r h e =
-    sym (moved n s at r) ∙ rw (drop-of-length-le s {i = at} (omega arith)) e
+  module _ {v : ℕ} (e : v ≡ digits 0 (take n (take (length s - at) (drop at s)))) where
+    pub number-is : at + n ≤ length s → readNumber n (drop at s) ≡ got v (drop (at + n) s)
+    unfolding readNumber
+    number-is h =
+        rw (le-leb n (length (drop at s)) (rw length-drop (omega arith)), drop-drop, e, take-all (length s - at) (drop at s) (rw length-drop (omega arith)))
 
-pub ruleset number-exits = (from-here, past-end)
+    pub number-read : at ≤ length s → n ≤ length s - at → numberOf n s at (Value v) ≡ readNumber n (drop at s)
+    number-read h l = sym (number-is (omega arith))
+
+pub ruleset number-exits = (number-past, number-cut, number-is, number-read)

@@ -1,8 +1,10 @@
 pub mod Digits
 pub mod Keys
 pub mod Ranges
+pub mod ThereExits
 pub mod Layouts
 pub mod Puts
 pub mod RangeLayouts
+pub mod GivenExits
 pub mod Spans
 pub mod Joints

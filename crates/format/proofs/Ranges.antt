@@ -77,17 +77,17 @@ module _ (j k : Kind) where
 pub ruleset head-bytes = (free-free, free-in, free-ex, in-free, in-in, in-ex, ex-free, ex-in, ex-ex)
 
 -- ---- bounds
-abbrev span : Kind → ℕ → ℕ → BoundSpan
+abbrev pub span : Kind → ℕ → ℕ → BoundSpan
 span k i n = record { kind = k; at = i; len = n }
 
 -- a bound's key is read, of whichever kind has one
-keyed-read : (k : Kind) (l : List ℕ) → isKeyed k ≡ true → readBound k l ≡ andThen (readKey l) (λ x r. got (boundOf k x) r)
+pub keyed-read : (k : Kind) (l : List ℕ) → isKeyed k ≡ true → readBound k l ≡ andThen (readKey l) (λ x r. got (boundOf k x) r)
 unfolding readBound
 keyed-read Unbounded l e = absurd (mathlib.Core.Bool.true≢false (sym e))
 keyed-read Included l e = refl
 keyed-read Excluded l e = refl
 
-unkeyed-read : (k : Kind) (l x : List ℕ) → isKeyed k ≡ false → readBound k l ≡ got (boundOf k x) l
+pub unkeyed-read : (k : Kind) (l x : List ℕ) → isKeyed k ≡ false → readBound k l ≡ got (boundOf k x) l
 unfolding readBound
 unkeyed-read Unbounded l x e = refl
 unkeyed-read Included l x e = absurd (mathlib.Core.Bool.true≢false e)

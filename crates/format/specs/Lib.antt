@@ -3,6 +3,8 @@ pub mod Number
 pub mod Key
 pub mod Whole
 pub mod Range
+pub mod There
 pub mod Joint
+pub mod Given
 pub mod Span
 pub mod Laws

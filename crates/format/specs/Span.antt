@@ -3,6 +3,7 @@ use Prim.Native.Nat.{ℕ}
 use mathlib.Core.Path.{_≡_}
 use mathlib.Core.Option.{Option, none, some}
 use mathlib.Core.List.{List, []}
+use Rattle.base.specs.Outcome.{Outcome, stop, answer}
 use Rattle.key.specs.Order.{Key}
 use Rattle.comparable_range.specs.Range.{Bound, unbounded, included, excluded, of}
 use Rattle.format.specs.Range.{BoundInside, boundIn}
@@ -11,6 +12,8 @@ use Rattle.format.specs.declared.span.Supplied.{Supplied}
 use Rattle.format.specs.declared.span.JointSpan.{JointSpan}
 use Rattle.format.specs.declared.span.Met.{Met}
 use Rattle.format.specs.declared.span.Met.the-variants.{Nothing, At}
+use Rattle.format.specs.declared.span.Joined.{Joined}
+use Rattle.format.specs.declared.span.Joined.the-variants.{Range as JoinedRange, Nothing as NoRange, Stop}
 
 -- ---- a bound that stands in a, if its side is the first, or in b
 abbrev pub SuppliedInside : List ℕ → List ℕ → Supplied → Type 0
@@ -49,3 +52,18 @@ MetInside a b (At j) = JointInside a b j
 pub record MetFound (a b : List ℕ) (o : Option Joint) (r : Met) : Type 0 where
   pub meaning : metIn a b r ≡ o
   pub inside : MetInside a b r
+
+-- ---- what a call answers
+abbrev pub jointOf : List ℕ → List ℕ → Joined → Outcome (Option Joint)
+jointOf a b (JoinedRange s e) = answer (some (record { start = supplyIn a b s; end = supplyIn a b e }))
+jointOf a b NoRange = answer none
+jointOf a b (Stop n) = stop n
+
+abbrev pub JoinedInside : List ℕ → List ℕ → Joined → Type 0
+JoinedInside a b (JoinedRange s e) = SuppliedInside a b s × SuppliedInside a b e
+JoinedInside a b NoRange = Unit
+JoinedInside a b (Stop n) = Unit
+
+pub record JointFound (a b : List ℕ) (g : Outcome (Option Joint)) (r : Joined) : Type 0 where
+  pub meaning : jointOf a b r ≡ g
+  pub inside : JoinedInside a b r

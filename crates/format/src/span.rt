@@ -30,6 +30,14 @@ pub struct JointSpan {
     pub end: Supplied,
 }
 
+// What a call answers: a range of which each bound stands in one of the two lent slices, that there is none, or the number of
+// the stop.
+pub enum Joined {
+    Range(Supplied, Supplied),
+    Nothing,
+    Stop(u8),
+}
+
 // The order of two bounds, both starts or both ends.
 pub fn compare(a: &[u8], x: BoundSpan, b: &[u8], y: BoundSpan, start: bool) -> Order
     requires { ⌜ BoundInside (now a) x ⌝ ∗ ⌜ BoundInside (now b) y ⌝ }

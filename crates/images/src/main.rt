@@ -1,9 +1,8 @@
 // Builds images in memory and writes what the calls on images answer. The expected answers, in the file stdout, are
 // document 01's. Lengths are written too: a line shows that its image is the one meant.
 mod build;
-mod report;
 
-use report::case;
+use image_report::case;
 
 // The length of the sample, and of a run in it.
 const SAMPLE: usize = 297;
@@ -42,7 +41,7 @@ fn two_views(name: &[u8], first: &[u8], last: &[u8], next: &[u8], out: &mut [u8]
     let second = build::number(&mut image, visible, 0, 1);
     let end = build::open_view(&mut image, second, 2, 0, 0, next);
     case(name, &image, end);
-    report::listing(&image, end, out);
+    image_report::listing(&image, end, out);
 }
 
 fn example() {
@@ -61,9 +60,9 @@ fn key_orders() {
 fn no_runs() {
     case(b"no runs", b"\x00", 1);
     let mut enough = [0u8; 25];
-    report::listing(b"\x00", 1, &mut enough);
+    image_report::listing(b"\x00", 1, &mut enough);
     let mut short = [0u8; 24];
-    report::listing(b"\x00", 1, &mut short);
+    image_report::listing(b"\x00", 1, &mut short);
 }
 
 // A run of two views: [b, z] seen through [c, y), and [m, z] seen through [n, w).
@@ -227,13 +226,13 @@ fn pair(first: u8, second: u8) {
     sample(&mut image);
     fault(&mut image, 1, first);
     fault(&mut image, 1 + RUN, second);
-    report::text(b"stop ");
-    report::decimal(first as usize);
+    image_report::text(b"stop ");
+    image_report::decimal(first as usize);
     if second == 8 {
         case(b" in run 7, run ids 7, 7", &image, SAMPLE);
     } else {
-        report::text(b" in run 7, stop ");
-        report::decimal(second as usize);
+        image_report::text(b" in run 7, stop ");
+        image_report::decimal(second as usize);
         case(b" in run 8", &image, SAMPLE);
     }
 }
@@ -250,7 +249,7 @@ fn pairs() {
 fn cut_fronts(image: &[u8]) -> usize {
     let mut n = 0;
     while n < image.len() {
-        if report::stop_or(bilqarush::check_image(report::front(image, n)), 0) != 1 {
+        if image_report::stop_or(bilqarush::check_image(image_report::front(image, n)), 0) != 1 {
             return n;
         }
         n += 1;
@@ -263,21 +262,21 @@ fn fronts() {
     let mut image = [0u8; 297];
     sample(&mut image);
     let mut out = [0u8; 256];
-    report::listing(&image, SAMPLE, &mut out);
-    report::text(b"fronts of the sample that stop with 1: ");
-    report::decimal(cut_fronts(&image));
-    report::text(b"\n");
+    image_report::listing(&image, SAMPLE, &mut out);
+    image_report::text(b"fronts of the sample that stop with 1: ");
+    image_report::decimal(cut_fronts(&image));
+    image_report::text(b"\n");
 }
 
 fn place(run: usize, view: usize) {
     let mut image = [0u8; 297];
     sample(&mut image);
-    report::text(b"sample, run place ");
-    report::decimal(run);
-    report::text(b", view place ");
-    report::decimal(view);
-    report::text(b": ");
-    report::range(&image, run, view);
+    image_report::text(b"sample, run place ");
+    image_report::decimal(run);
+    image_report::text(b", view place ");
+    image_report::decimal(view);
+    image_report::text(b": ");
+    image_report::range(&image, run, view);
 }
 
 fn places() {

@@ -22,7 +22,7 @@ use Rattle.records.specs.declared.runs.RunRead.{RunRead}
 use Rattle.records.specs.declared.runs.RunRead.the-variants.{At as RunAt, Stop as RunStop}
 use Rattle.records.proofs.HeadExits.{runOf}
 use Rattle.records.proofs.Walk.{Walk, walk-begin, walk-all, walk-never, walk-here, walk-ahead, walk-onward, walk-front}
-use Rattle.records.proofs.There.{run-stops, views-place, views-there, run-past, views-most, run-here}
+use Rattle.records.proofs.RunsThere.{run-stops, views-place, views-there, run-past, views-most, run-here}
 use Rattle.listing.specs.Listing.{line, lines, runLines}
 use Rattle.listing.specs.Spans.{ReachedPast}
 use Rattle.listing.specs.declared.Reached.{Reached}
@@ -66,19 +66,19 @@ module _ {s : List ℕ} {from n id place at to : ℕ} (p : ViewsLen s from n id 
     pub views-len-never : {k : ℕ} → r ≡ ViewStop k → ReachedPast s (readMany (view .read) n (drop from s)) 0 (lines id 0 (valuesOf (readMany (view .read) n (drop from s)))) (reached at to)
     views-len-never {k} q = absurd (walk-never (p .walk) h {j = k} (sym (f .meaning) ∙ rw q))
 
-    module _ {v : ViewSpan} {next : ℕ} (q : r ≡ ViewAt v next) where
+    module _ {v : ViewSpan} (q : r ≡ ViewAt v) where
       pub views-len-inside : ViewInside s v
-      views-len-inside = (rw q at (f .inside)) .0
+      views-len-inside = rw q at (f .inside)
 
       module _ {l : ℕ} (e : (l ≡ length (line id place (viewIn s v))) × (l ≤ 262223)) where
         pub views-len-fits : Fits w64 (to + l)
         views-len-fits = omega (arith, p .bound, p .most, p .walk .upto, e .1)
 
-        pub views-len-onward : ViewsLen s from n id (place + 1) next (to + l)
+        pub views-len-onward : ViewsLen s from n id (place + 1) (v .past) (to + l)
         views-len-onward =
             record {
               seen = p .seen ++ (viewIn s v ∷ []);
-              walk = walk-onward (p .walk) h (sym (f .meaning) ∙ rw q) ((rw q at (f .inside)) .1);
+              walk = walk-onward (p .walk) h (sym (f .meaning) ∙ rw q) ((rw q at (f .inside)) .past);
               most = p .most;
               long = sym (ap length (lines-more id place (p .seen) (viewIn s v) (p .walk .count)) ∙ rw (length-append, ← (p .long), ← (e .0)));
               bound = omega (arith, p .bound, e .1);
@@ -180,13 +180,13 @@ module _ {s : List ℕ} {from n id : ℕ} {d : List ℕ} {first : ℕ} {out : Li
     pub views-put-none : {k : ℕ} → r ≡ ViewStop k → out ≡ splice d first (lines id 0 (valuesOf (readMany (view .read) n (drop from s))))
     views-put-none {k} q = absurd (walk-never (p .walk) h {j = k} (sym (f .meaning) ∙ rw q))
 
-    module _ {v : ViewSpan} {next : ℕ} (q : r ≡ ViewAt v next) where
+    module _ {v : ViewSpan} (q : r ≡ ViewAt v) where
       pub views-put-inside : ViewInside s v
-      views-put-inside = (rw q at (f .inside)) .0
+      views-put-inside = rw q at (f .inside)
 
       fits : first + length (lines id 0 (p .seen)) + length (line id place (viewIn s v)) ≤ length d
       fits =
-          let a = walk-ahead (p .walk) h {a = viewIn s v} (drop next s) (sym (f .meaning) ∙ rw q) in
+          let a = walk-ahead (p .walk) h {a = viewIn s v} (drop (v .past) s) (sym (f .meaning) ∙ rw q) in
           let b : length (lines id 0 (p .seen)) + length (line id place (viewIn s v)) ≤ length (lines id 0 (valuesOf (readMany (view .read) n (drop from s)))) = rw (a .all) (line-within id place (p .seen) (viewIn s v) (a .tail) (p .walk .count)) in
           omega (arith, p .room)
 
@@ -197,12 +197,12 @@ module _ {s : List ℕ} {from n id : ℕ} {d : List ℕ} {first : ℕ} {out : Li
           {out′ : List ℕ} {to′ : ℕ}
           → to′ ≡ to + length (line id place (viewIn s v))
           → out′ ≡ splice out to (line id place (viewIn s v))
-          → ViewsPut s from n id d first out′ (place + 1) next to′
+          → ViewsPut s from n id d first out′ (place + 1) (v .past) to′
       views-put-onward {out′} {to′} t o =
           let more = lines-more id place (p .seen) (viewIn s v) (p .walk .count) in
           record {
             seen = p .seen ++ (viewIn s v ∷ []);
-            walk = walk-onward (p .walk) h (sym (f .meaning) ∙ rw q) ((rw q at (f .inside)) .1);
+            walk = walk-onward (p .walk) h (sym (f .meaning) ∙ rw q) ((rw q at (f .inside)) .past);
             room = p .room;
             long = t ∙ rw (p .long, more, length-append) (omega arith);
             is = o ∙ ap (λ l. splice l to (line id place (viewIn s v))) (p .is) ∙ splice-splice d first (lines id 0 (p .seen)) (line id place (viewIn s v)) to (p .long) (omega (arith, fits)) ∙ ap (splice d first) (sym more);

@@ -72,9 +72,9 @@ fn views_len(s: &[u8], from: usize, n: usize, id: u64) -> Reached
             ViewRead::Stop(_) => {
                 return Reached { next: at, to };
             }
-            ViewRead::At(v, next) => {
+            ViewRead::At(v) => {
                 to += line_len(s, v, id, place);
-                at = next;
+                at = v.past;
                 place += 1;
             }
         }

@@ -148,9 +148,9 @@ fn put_views(s: &[u8], from: usize, n: usize, id: u64, out: &mut [u8], first: us
             ViewRead::Stop(_) => {
                 return Reached { next: at, to };
             }
-            ViewRead::At(v, next) => {
+            ViewRead::At(v) => {
                 to = put_line(s, v, id, place, out, to);
-                at = next;
+                at = v.past;
                 place += 1;
             }
         }

@@ -73,9 +73,9 @@ module _ {s : List ℕ} {from n left at fault : ℕ} {before : BoundSpan} (p : V
     pub views-stop : {k : ℕ} → r ≡ ViewStop k → JudgedFound s (faults viewsChecks (readMany (view .read) n (drop from s))) (Stop k)
     views-stop {k} q = record { meaning = rw (stopped (p .reading) {k = k} h (sym (f .meaning) ∙ rw q)); inside = tt }
 
-    module _ {v : ViewSpan} {next : ℕ} (q : r ≡ ViewAt v next) where
+    module _ {v : ViewSpan} (q : r ≡ ViewAt v) where
       pub view-inside : ViewInside s v
-      view-inside = (rw q at (f .inside)) .0
+      view-inside = rw q at (f .inside)
 
       pub views-onward :
           {e : RangeSpan} {a b c d : ℕ}
@@ -84,12 +84,12 @@ module _ {s : List ℕ} {from n left at fault : ℕ} {before : BoundSpan} (p : V
           → b ≡ faultOf (ordered (atMost (cmpBound true (boundIn s before) (boundIn s (e .start)))))
           → c ≡ least a b
           → d ≡ least fault c
-          → ViewsSeen s from n (left - 1) next d (e .start)
+          → ViewsSeen s from n (left - 1) (v .past) d (e .start)
       views-onward {e} {a} {b} {c} {d} x ha hb hc hd =
           let start : boundIn s (e .start) ≡ effective (viewIn s v) .start = ap (λ (r : Range). r .start) (x .meaning) in
           record {
             seen = p .seen ++ (viewIn s v ∷ []);
-            reading = onward (p .reading) h (sym (f .meaning) ∙ rw q) ((rw q at (f .inside)) .1);
+            reading = onward (p .reading) h (sym (f .meaning) ∙ rw q) (view-inside .past);
             so-far = hd ∙ rw (hc, ha, hb, p .so-far, p .last, start) (sym (views-more (p .seen) (viewIn s v)));
             last = start ∙ sym (ap (lastOf unbounded) (starts-more (p .seen) (viewIn s v)) ∙ last-more unbounded (starts (p .seen)) (effective (viewIn s v) .start));
             last-in = x .start;

@@ -97,13 +97,13 @@ module _ {s : List ℕ} {from n left at fault : ℕ} (p : Seen (table .read) tab
   pub tables-stop : {k : ℕ} → r ≡ TableStop k → JudgedFound s (faults tablesChecks (readMany (table .read) n (drop from s))) (Stop k)
   tables-stop q = seen-stop p h (sym (f .meaning) ∙ rw q)
 
-  module _ {t : TableSpan} {next : ℕ} (q : r ≡ TableAt t next) where
+  module _ {t : TableSpan} (q : r ≡ TableAt t) where
     pub table-inside : TableInside s t
-    table-inside = (rw q at (f .inside)) .0
+    table-inside = rw q at (f .inside)
 
-    pub tables-onward : {a d : ℕ} → a ≡ faultOf (tableChecks (tableIn s t)) → d ≡ least fault a → Seen (table .read) tablesChecks s from n (left - 1) next d
+    pub tables-onward : {a d : ℕ} → a ≡ faultOf (tableChecks (tableIn s t)) → d ≡ least fault a → Seen (table .read) tablesChecks s from n (left - 1) (t .past) d
     tables-onward ha hd =
-        seen-onward p (tableIn s t) h (sym (f .meaning) ∙ rw q) ((rw q at (f .inside)) .1) (hd ∙ rw (ha, p .so-far) (sym (tables-more (p .seen) (tableIn s t))))
+        seen-onward p (tableIn s t) h (sym (f .meaning) ∙ rw q) (table-inside .past) (hd ∙ rw (ha, p .so-far) (sym (tables-more (p .seen) (tableIn s t))))
 
 pub ruleset tables-exits = (seen-at, seen-end, tables-begin, tables-stop, table-inside, tables-onward)
 

@@ -43,7 +43,7 @@ fn views_judged(s: &[u8], from: usize, n: usize) -> Judged
             ViewRead::Stop(k) => {
                 return Judged::Stop(k);
             }
-            ViewRead::At(v, next) => {
+            ViewRead::At(v) => {
                 let e = effective(s, v);
                 let start = e.start;
                 fault = lesser(
@@ -51,7 +51,7 @@ fn views_judged(s: &[u8], from: usize, n: usize) -> Judged
                     lesser(view_fault(s, v, e), order_fault(s, before, start)),
                 );
                 before = start;
-                at = next;
+                at = v.past;
                 left -= 1;
             }
         }

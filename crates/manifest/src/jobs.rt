@@ -49,9 +49,9 @@ fn tables_judged(s: &[u8], from: usize, n: usize) -> Judged
             TableRead::Stop(k) => {
                 return Judged::Stop(k);
             }
-            TableRead::At(t, next) => {
+            TableRead::At(t) => {
                 fault = lesser(fault, table_fault(s, t));
-                at = next;
+                at = t.past;
                 left -= 1;
             }
         }

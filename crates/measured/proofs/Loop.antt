@@ -21,7 +21,7 @@ use Rattle.records.specs.declared.runs.RunRead.{RunRead}
 use Rattle.records.specs.declared.runs.RunRead.the-variants.{At as RunAt, Stop as RunStop}
 use Rattle.records.proofs.HeadExits.{runOf}
 use Rattle.records.proofs.Walk.{Walk, walk-begin, walk-all, walk-here, walk-ahead, walk-onward}
-use Rattle.records.proofs.There.{run-stops, run-past, run-here}
+use Rattle.records.proofs.RunsThere.{run-stops, run-past, run-here}
 use Rattle.manifest.specs.Checks.{all}
 use Rattle.incremental_progress.specs.Draws.{Ten, Drawn, used-up, supply}
 use Rattle.incremental_progress.specs.Draws as draws

@@ -92,7 +92,7 @@ fn run_sized<'a>(
     if compactor_state::is_source(task, place, sources, id) {
         return pieces::views_sized(given, first, n, task, table, m, ids, from);
     }
-    let past = db_state::views_end(given, first, n);
+    let past = records::views_end(given, first, n);
     RunSized::At {
         views: n,
         bytes: past - first,

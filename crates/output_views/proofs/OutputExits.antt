@@ -78,24 +78,24 @@ module _ {s : List ℕ} {from m : ℕ} {ids : List Key} {k at : ℕ} (p : Output
     pub outputs-never : {j : ℕ} {w : Outputs} → r ≡ TableStop j → OutputsPassed s (readMany (table .read) m (drop from s)) ids w
     outputs-never {j} q = absurd (walk-never (p .walk) h {j = j} (sym (f .meaning) ∙ rw q))
 
-    module _ {t : TableSpan} {next : ℕ} (q : r ≡ TableAt t next) where
+    module _ {t : TableSpan} (q : r ≡ TableAt t) where
       pub output-there : t .id + 16 ≤ length s
-      output-there = (rw q at (f .inside)) .0 .id
+      output-there = (rw q at (f .inside)) .id
 
       module _ {b : Bool} (e : b ≡ idIn ids (idAt s (t .id))) where
-        pub output-found : b ≡ true → OutputsPassed s (readMany (table .read) m (drop from s)) ids (passed true next)
+        pub output-found : b ≡ true → OutputsPassed s (readMany (table .read) m (drop from s)) ids (passed true (t .past))
         output-found z =
-            let a = walk-ahead (p .walk) h {a = tableIn s t} (drop next s) (sym (f .meaning) ∙ rw q) in
+            let a = walk-ahead (p .walk) h {a = tableIn s t} (drop (t .past) s) (sym (f .meaning) ∙ rw q) in
             record {
               found = found-here ids (valuesOf (readMany (table .read) m (drop from s))) (p .seen) (a .tail) (tableIn s t) (a .all) (p .none) (sym e ∙ z);
               past = λ x. absurd (true≢false x);
             }
 
-        pub outputs-onward : b ≡ false → OutputsSeen s from m ids (k + 1) next
+        pub outputs-onward : b ≡ false → OutputsSeen s from m ids (k + 1) (t .past)
         outputs-onward z =
             record {
               seen = p .seen ++ (tableIn s t ∷ []);
-              walk = walk-onward (p .walk) h {a = tableIn s t} (sym (f .meaning) ∙ rw q) ((rw q at (f .inside)) .1);
+              walk = walk-onward (p .walk) h {a = tableIn s t} (sym (f .meaning) ∙ rw q) ((rw q at (f .inside)) .past);
               none = any-append ids (p .seen) (tableIn s t ∷ []) ∙ rw (p .none, any-one ids (tableIn s t)) (sym e ∙ z);
             }
 

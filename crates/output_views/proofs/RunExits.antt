@@ -22,10 +22,10 @@ use Rattle.records.specs.declared.parts.JobRead.{JobRead}
 use Rattle.records.specs.declared.parts.JobRead.the-variants.{Stop as JobStop}
 use Rattle.records.proofs.HeadExits.{runOf, image-is}
 use Rattle.records.proofs.Walk.{Walk, walk-begin, walk-all, walk-never, walk-here, walk-ahead, walk-onward}
-use Rattle.records.proofs.There.{run-stops, views-place, views-there, run-past, views-most, run-here}
+use Rattle.records.proofs.RunsThere.{run-stops, views-place, views-there, run-past, views-most, run-here}
 use Rattle.manifest.specs.Checks.{all}
 use Rattle.manifest.proofs.ImageExits.{first-place}
-use Rattle.db_state.specs.Spans.{Past}
+use Rattle.records.specs.There.{Past}
 use Rattle.output_views.specs.Covered.{coveredBy, viewsCovered}
 use Rattle.output_views.proofs.OutputExits.{no-job, destination-is}
 

@@ -105,22 +105,22 @@ module _ {s : List ℕ} {from m : ℕ} {job : List ℕ} {n : ℕ} {table : List 
       pub left-never : {j : ℕ} {b : Bool} (ps : List Part) → r ≡ ViewStop j → b ≡ not (viewsCovered (gapsIn job n table) ps (valuesOf (readMany (view .read) m (drop from s))))
       left-never {j} ps q = absurd (walk-never (p .walk) h {j = j} (sym (f .meaning) ∙ rw q))
 
-      module _ {v : ViewSpan} {next : ℕ} (q : r ≡ ViewAt v next) where
+      module _ {v : ViewSpan} (q : r ≡ ViewAt v) where
         pub left-inside : ViewInside s v
-        left-inside = (rw q at (f .inside)) .0
+        left-inside = rw q at (f .inside)
 
         pub left-there : v .table .id + 16 ≤ length s
         left-there = left-inside .table .id
 
-        onward : Walk (view .read) s from m (seen + 1) next (p .vs ++ (viewIn s v ∷ []))
-        onward = walk-onward (p .walk) h {a = viewIn s v} (sym (f .meaning) ∙ rw q) ((rw q at (f .inside)) .1)
+        onward : Walk (view .read) s from m (seen + 1) (v .past) (p .vs ++ (viewIn s v ∷ []))
+        onward = walk-onward (p .walk) h {a = viewIn s v} (sym (f .meaning) ∙ rw q) (left-inside .past)
 
         module _ {e : RangeSpan} (x : EffectiveFound s v e) {b : Bool} (y : b ≡ not (nothingLeft (pieces (gapsIn job n table) (rangeIn s (e .start) (e .end))))) where
           test : b ≡ not (coveredIn (gapsIn job n table) (viewIn s v))
           unfolding coveredIn
           test = y ∙ ap (λ (r : Range). not (nothingLeft (pieces (gapsIn job n table) r))) (x .meaning)
 
-          pub left-none : b ≡ false → ViewsLeft s from m job n table heads tails marks k (seen + 1) next
+          pub left-none : b ≡ false → ViewsLeft s from m job n table heads tails marks k (seen + 1) (v .past)
           left-none z =
               record {
                 vs = p .vs ++ (viewIn s v ∷ []);
@@ -138,7 +138,7 @@ module _ {s : List ℕ} {from m : ℕ} {job : List ℕ} {n : ℕ} {table : List 
               {heads′ tails′ : List ℕ} {marks′ : List Bool}
               → b ≡ true
               → KeptMore heads tails k (idAt s (v .table .id)) heads′ tails′ marks′
-              → ViewsLeft s from m job n table heads′ tails′ marks′ (k + 1) (seen + 1) next
+              → ViewsLeft s from m job n table heads′ tails′ marks′ (k + 1) (seen + 1) (v .past)
           left-one z w =
               record {
                 vs = p .vs ++ (viewIn s v ∷ []);

@@ -8,7 +8,7 @@ use Rattle.key.specs.Order.{Key}
 use Rattle.format.specs.Got.{Got}
 use Rattle.records.specs.Values.{Table}
 use Rattle.records.specs.Found.{valuesOf}
-use Rattle.db_state.specs.Spans.{Past}
+use Rattle.records.specs.There.{Past}
 use Rattle.pieces.specs.declared.piece.Piece.{Piece}
 use Rattle.pieces.specs.declared.piece.Piece.the-variants.{Nothing, Whole, Cut}
 use Rattle.output_views.specs.Ids.{idAt, idOf, idsOf, entryOf, anyIn}

@@ -119,7 +119,8 @@ fn outputs_kept(
                     next: at,
                 };
             }
-            TableRead::At(t, next) => {
+            TableRead::At(t) => {
+                let next = t.past;
                 let id = t.id;
                 if kept_has(heads, tails, marks, k, s, id) {
                     return Outputs { found: true, next };

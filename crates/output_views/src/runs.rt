@@ -42,7 +42,8 @@ fn output_left<'a>(
             ViewRead::Stop(_) => {
                 return false;
             }
-            ViewRead::At(v, next) => {
+            ViewRead::At(v) => {
+                let next = v.past;
                 if has_piece(given, manifest::effective(given, v), s, gaps, n) {
                     let t = v.table;
                     keep(given, t.id, &mut heads, &mut tails, &mut marks, k);
@@ -84,10 +85,10 @@ fn runs_covered<'a>(
                     if output_left(given, next, views, s, gaps, n) {
                         return false;
                     }
-                    at = db_state::views_end(given, next, views);
+                    at = records::views_end(given, next, views);
                     seen += 1;
                 } else {
-                    at = db_state::views_end(given, next, views);
+                    at = records::views_end(given, next, views);
                     seen += 1;
                 }
             }

@@ -143,8 +143,8 @@ module _ (s : List ℕ) (at : ℕ) (t : T (isGot (view .read (drop at s)))) wher
     no-table {k} q =
         absurd (let e = x .meaning ∙ table-there in let z : _≡_ {A = ℕ} 0 1 = cc in omega arith)
 
-    pub table-past : {u : TableSpan} {end : ℕ} → w ≡ TableAt u end → TableEnds s at end
-    table-past {u} q = record { value = tableIn s u; is = sym (x .meaning) ∙ rw q; inside = (rw q at (x .inside)) .1 }
+    pub table-past : {u : TableSpan} → w ≡ TableAt u → TableEnds s at (u .past)
+    table-past {u} q = record { value = tableIn s u; is = sym (x .meaning) ∙ rw q; inside = (rw q at (x .inside)) .past }
 
 pub ruleset table-end-exits = (id-place, id-fits, no-table, table-past)
 
@@ -155,12 +155,12 @@ module _ (s : List ℕ) (at : ℕ) {w : ViewRead} (x : ViewFound s (view .read (
       let v = view-there s at t (view .read (drop at s)) refl in
       absurd (let e = x .meaning ∙ v .1 .1 in let z : _≡_ {A = ℕ} 0 1 = cc in omega arith)
 
-  module _ {v : ViewSpan} {past : ℕ} (q : w ≡ At v past) where
+  module _ {v : ViewSpan} (q : w ≡ At v) where
     pub held-inside : Rattle.records.specs.Spans.ViewInside s v
-    held-inside = (rw q at (x .inside)) .0
+    held-inside = rw q at (x .inside)
 
-    pub held : {r : RangeSpan} {end : ℕ} → EffectiveFound s v r → TableEnds s at end → HeldAt s at (record { view = v; range = r; end = end; past = past })
-    held e t = record { read = sym (x .meaning) ∙ rw q; inside = (rw q at (x .inside)) .0; within = (rw q at (x .inside)) .1; range = e; table-ends = t }
+    pub held : {r : RangeSpan} {end : ℕ} → EffectiveFound s v r → TableEnds s at end → HeldAt s at (record { view = v; range = r; end = end; past = v .past })
+    held e t = record { read = sym (x .meaning) ∙ rw q; inside = held-inside; within = held-inside .past; range = e; table-ends = t }
 
 pub ruleset held-exits = (no-held, held-inside, held)
 

@@ -39,6 +39,7 @@ fn no_view(at: usize) -> ViewHeld {
         flagged: false,
         last_at: at,
         last_len: 0,
+        past: at,
     };
     ViewHeld {
         view: ViewSpan {
@@ -47,6 +48,7 @@ fn no_view(at: usize) -> ViewHeld {
             shown: false,
             start: none,
             end: none,
+            past: at,
         },
         range: RangeSpan {
             start: none,
@@ -64,7 +66,7 @@ fn table_end(s: &[u8], at: usize) -> usize
 {
     match records::table_at(s, at + 16) {
         TableRead::Stop(_) => at,
-        TableRead::At(_, end) => end,
+        TableRead::At(t) => t.past,
     }
 }
 
@@ -75,13 +77,13 @@ pub fn view_held(s: &[u8], at: usize) -> ViewHeld
 {
     match records::view_at(s, at) {
         ViewRead::Stop(_) => no_view(at),
-        ViewRead::At(view, past) => {
+        ViewRead::At(view) => {
             let range = effective(s, view);
             ViewHeld {
                 view,
                 range,
                 end: table_end(s, at),
-                past,
+                past: view.past,
             }
         }
     }

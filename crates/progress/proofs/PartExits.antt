@@ -70,14 +70,14 @@ module _ {s : List ℕ} {from n k : ℕ} {w : LastWritten} (p : WrittenSeen s fr
     pub written-never : {j : ℕ} → r ≡ TableStop j → OutputsPassed s (readMany (table .read) n (drop from s)) w
     written-never {j} q = absurd (walk-never (p .walk) h {j = j} (sym (f .meaning) ∙ rw q))
 
-    pub written-onward : {t : TableSpan} {next : ℕ} → r ≡ TableAt t next → WrittenSeen s from n (k + 1) (written (t .flagged) (t .«last_at») (t .«last_len») next)
-    written-onward {t} {next} q =
+    pub written-onward : {t : TableSpan} → r ≡ TableAt t → WrittenSeen s from n (k + 1) (written (t .flagged) (t .«last_at») (t .«last_len») (t .past))
+    written-onward {t} q =
         let i = rw q at (f .inside) in
         record {
           seen = p .seen ++ (tableIn s t ∷ []);
-          walk = walk-onward (p .walk) h (sym (f .meaning) ∙ rw q) (i .1);
+          walk = walk-onward (p .walk) h (sym (f .meaning) ∙ rw q) (i .past);
           last = sym (last-more (p .seen) (tableIn s t));
-          inside = i .0 .last;
+          inside = i .last;
         }
 
 pub ruleset written-exits = (written-begin, written-at, written-end, written-never, written-onward)

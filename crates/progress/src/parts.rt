@@ -39,12 +39,12 @@ pub fn last_written(s: &[u8], from: usize, n: usize) -> LastWritten
             TableRead::Stop(_) => {
                 return last;
             }
-            TableRead::At(t, next) => {
+            TableRead::At(t) => {
                 last = LastWritten {
                     there: t.flagged,
                     at: t.last_at,
                     len: t.last_len,
-                    next,
+                    next: t.past,
                 };
                 seen += 1;
             }

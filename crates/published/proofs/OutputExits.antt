@@ -45,8 +45,8 @@ module _ (s : List ℕ) (at : ℕ) {r : TableRead} (f : TableFound s (table .rea
   pub no-output : {k : ℕ} (o : OutputHeld) → T (isGot (table .read (drop at s))) → r ≡ Stop k → OutputAt s at o
   no-output {k} o t q = absurd (never-stops (table .read (drop at s)) k t (sym (f .meaning) ∙ rw q))
 
-  pub output-read : {t : TableSpan} {past : ℕ} → r ≡ At t past → OutputAt s at (record { table = t; past = past })
-  output-read q = record { read = sym (f .meaning) ∙ rw q; inside = (rw q at (f .inside)) .0; within = (rw q at (f .inside)) .1 }
+  pub output-read : {t : TableSpan} → r ≡ At t → OutputAt s at (record { table = t; past = t .past })
+  output-read q = record { read = sym (f .meaning) ∙ rw q; inside = rw q at (f .inside); within = (rw q at (f .inside)) .past }
 
 pub ruleset held-exits = (no-output, output-read)
 
@@ -55,11 +55,11 @@ abbrev openSpan : BoundSpan
 openSpan = record { kind = Unbounded; at = 0; len = 0 }
 
 abbrev wholeView : TableSpan → ViewSpan
-wholeView t = record { id = t .id; table = t; shown = false; start = openSpan; end = openSpan }
+wholeView t = record { id = t .id; table = t; shown = false; start = openSpan; end = openSpan; past = t .past }
 
 module _ (s : List ℕ) (t : TableSpan) where
   pub whole-inside : TableInside s t → ViewInside s (wholeView t)
-  whole-inside h = record { id = h .id; table = h; start = omega arith; end = omega arith }
+  whole-inside h = record { id = h .id; table = h; start = omega arith; end = omega arith; past = h .past }
 
   pub own-found : {r : RangeSpan} → EffectiveFound s (wholeView t) r → OwnFound s t r
   unfolding effective

@@ -40,6 +40,7 @@ fn no_output(at: usize) -> OutputHeld {
             flagged: false,
             last_at: at,
             last_len: 0,
+            past: at,
         },
         past: at,
     }
@@ -52,7 +53,10 @@ pub fn output_held(s: &[u8], at: usize) -> OutputHeld
 {
     match records::table_at(s, at) {
         TableRead::Stop(_) => no_output(at),
-        TableRead::At(table, past) => OutputHeld { table, past },
+        TableRead::At(table) => OutputHeld {
+            table,
+            past: table.past,
+        },
     }
 }
 
@@ -89,6 +93,7 @@ fn own_range(s: &[u8], t: TableSpan) -> RangeSpan
             shown: false,
             start: none,
             end: none,
+            past: t.past,
         },
     )
 }

@@ -18,7 +18,7 @@ use Rattle.records.specs.Spans.{runHead, RunFound}
 use Rattle.records.specs.declared.runs.RunRead.{RunRead}
 use Rattle.records.specs.declared.runs.RunRead.the-variants.{At as RunAt, Stop as RunStop}
 use Rattle.records.proofs.Walk.{Walk, walk-begin, walk-all, walk-never, walk-here, walk-ahead, walk-onward}
-use Rattle.records.proofs.There.{run-stops, views-place, views-there, run-past, views-most, run-here}
+use Rattle.records.proofs.RunsThere.{run-stops, views-place, views-there, run-past, views-most, run-here}
 use Rattle.manifest.specs.Checks.{all}
 use Rattle.incremental_progress.specs.Draws.{Ten, Drawn, used-up, next, supply}
 use Rattle.incremental_progress.specs.Draws as draws

@@ -24,7 +24,7 @@ use Rattle.records.specs.Spans.{idsIn}
 use Rattle.records.proofs.Forms.{many-form, readMany-length}
 use Rattle.records.proofs.RecordLayouts.{view-layout}
 use Rattle.manifest.specs.Checks.{has}
-use Rattle.db_state.specs.Spans.{Past}
+use Rattle.records.specs.There.{Past}
 use Rattle.incremental_progress.specs.Parts.{intervals}
 use Rattle.incremental_progress.specs.Draws.{Ten, Drawn, used-up, next, supply}
 use Rattle.incremental_progress.specs.Draws as draws

@@ -119,7 +119,7 @@ fn put_other_run(
     ensures { λ r. ⌜ OtherPut (now (given .entry)) first n id from to r ⌝ }
     ensures { λ r. ⌜ now (out .exit) ≡ splice (now (out .entry)) to (run .write (newRun id (viewsAt (now (given .entry)) first n))) ⌝ }
 {
-    let past = db_state::views_end(given, first, n);
+    let past = records::views_end(given, first, n);
     let a = put_head(out, to, id, n);
     format::put(out, a, &given[first..past]);
     RunDone {

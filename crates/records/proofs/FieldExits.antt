@@ -14,10 +14,8 @@ use Rattle.base.specs.Outcome.{Outcome, answer}
 use Rattle.base.specs.Outcome as outcome
 use Rattle.key.specs.Word.{digits}
 use Rattle.format.specs.Got.{got, stop}
-use Rattle.format.specs.Number.{readNumber, numberOf}
+use Rattle.format.specs.Number.{readNumber}
 use Rattle.format.specs.Key.{readBytes}
-use Rattle.format.specs.declared.Number.{Number}
-use Rattle.format.specs.declared.Number.the-variants.{Value, Short}
 use Rattle.records.specs.Form.{Form, number, bytes, packed, seq}
 use Rattle.records.specs.Layouts.{flagOf}
 
@@ -85,19 +83,6 @@ seq-short f g n m s e t l h = go (leb n (length l)) refl
 
 pub first-short : {A B : Type 0} (f : Form A) (g : A → Form B) (n : ℕ) → StopsShort f n → StopsShort (seq f g) n
 first-short f g n s l h = rw (s l h)
-
--- ---- number_here
-module _ (s : List ℕ) (at n : ℕ) {o : Number} (e : numberOf n s at o ≡ readNumber n (drop at s)) where
-  pub number-found : {v : ℕ} → o ≡ Value v → readNumber n (drop at s) ≡ got v (drop (at + n) s)
-  number-found q = sym (rw q at e)
-
-  pub number-missed : o ≡ Short → at + n ≤ length s → readNumber n (drop at s) ≡ got 0 (drop (at + n) s)
-  number-missed q h =
-      let f = rw q at e in
-      let g = number-is s at n h in
-      absurd (let z : _≡_ {A = ℕ} 0 1 = cc in omega arith)
-
-pub ruleset number-exits = (number-found, number-missed)
 
 -- ---- flag_of
 pub flag-clear : (b : ℕ) → b ≡ 0 → answer false ≡ flagOf b

@@ -5,9 +5,11 @@ pub mod IdExits
 pub mod FieldExits
 pub mod TableExits
 pub mod ViewExits
+pub mod ThereExits
 pub mod HeadExits
-pub mod There
+pub mod RunsThere
 pub mod Walk
+pub mod Pasts
 pub mod PartExits
 pub mod BlockExits
 pub mod Examples

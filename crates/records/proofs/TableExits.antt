@@ -45,13 +45,13 @@ pub ruleset last-exits = (last-there, last-absent)
 
 -- ---- table_at
 -- the fields after the numbers, and the table of all
-abbrev Rest : Type 0
+abbrev pub Rest : Type 0
 Rest = Bool × (Key × Option Key)
 
-abbrev rest : Form Rest
+abbrev pub rest : Form Rest
 rest = seq flag (λ f. seq key (λ k. optional key f))
 
-abbrev with-numbers : List ℕ → ℕ → ℕ → ℕ → Got Rest → Got Table
+abbrev pub with-numbers : List ℕ → ℕ → ℕ → ℕ → Got Rest → Got Table
 with-numbers id o n t g = andThen g (λ x r. got (tableOf (id, (o, (n, (t, x))))) r)
 
 gathered :
@@ -64,7 +64,7 @@ gathered id o n t (stop k) = refl
 rest-short : StopsShort rest 1
 rest-short = first-short flag (λ f. seq key (λ k. optional key f)) 1 (packed-short 1 flagOf (λ f. flagNumber f * 128) (λ f. Unit))
 
-numbers-short : (l : List ℕ) → length l < 41 → table .read l ≡ stop 1
+pub numbers-short : (l : List ℕ) → length l < 41 → table .read l ≡ stop 1
 unfolding table
 numbers-short l h =
     rw all-short
@@ -94,7 +94,7 @@ same-place : (s : List ℕ) (at m n k : ℕ) → m + n ≡ k → drop (at + m + 
 same-place s at m n k e = let z : at + m + n ≡ at + k = omega arith in ap (λ i. drop i s) z
 
 module _ (s : List ℕ) (at : ℕ) (h : 41 ≤ length s - at) where
-  opened : (o n t : ℕ) → Numbers s at o n t → table .read (drop at s) ≡ with-numbers (take 16 (drop at s)) o n t (rest .read (drop (at + 40) s))
+  pub opened : (o n t : ℕ) → Numbers s at o n t → table .read (drop at s) ≡ with-numbers (take 16 (drop at s)) o n t (rest .read (drop (at + 40) s))
   unfolding table
   opened o n t p =
       let a = p .offset ∙ ap (got o) (same-place s at 16 8 24 refl) in
@@ -102,7 +102,7 @@ module _ (s : List ℕ) (at : ℕ) (h : 41 ≤ length s - at) where
       let c = p .filter ∙ ap (got t) (same-place s at 32 8 40 refl) in
       rw (bytes-is s at 16 (omega arith), a, b, c) (gathered (take 16 (drop at s)) o n t (rest .read (drop (at + 40) s)))
 
-  some-numbers : Numbers s at (digits 0 (take 8 (drop (at + 16) s))) (digits 0 (take 8 (drop (at + 24) s))) (digits 0 (take 8 (drop (at + 32) s)))
+  pub some-numbers : Numbers s at (digits 0 (take 8 (drop (at + 16) s))) (digits 0 (take 8 (drop (at + 24) s))) (digits 0 (take 8 (drop (at + 32) s)))
   some-numbers =
       record {
         offset = number-is s (at + 16) 8 (omega arith);
@@ -114,7 +114,7 @@ module _ (s : List ℕ) (at : ℕ) (h : 41 ≤ length s - at) where
   stops-after : {k : ℕ} → rest .read (drop (at + 40) s) ≡ stop k → TableFound s (table .read (drop at s)) (Stop k)
   stops-after e = record { meaning = sym (opened _ _ _ some-numbers ∙ rw e); inside = tt }
 
-  byte : readNumber 1 (drop (at + 40) s) ≡ got (getD s (at + 40) 0) (drop (at + 41) s)
+  pub byte : readNumber 1 (drop (at + 40) s) ≡ got (getD s (at + 40) 0) (drop (at + 41) s)
   byte = byte-is s (at + 40) (omega arith) ∙ ap (got (getD s (at + 40) 0)) (same-place s at 40 1 41 refl)
 
   module _ {w : FlagRead} (e : flagRead w ≡ flagOf (getD s (at + 40) 0)) where
@@ -154,13 +154,14 @@ module _ (s : List ℕ) (at : ℕ) (h : 41 ≤ length s - at) where
                 flagged = f;
                 «last_at» = c;
                 «last_len» = d;
-              }) z′)
+                past = z′;
+              }))
           table-read {c} {d} {z′} {o} {n} {t} u a a′ a″ =
               let v = rw z at (x .inside) in
               let v′ = rw u at (y .inside) in
               record {
                 meaning = sym (opened o n t (record { offset = a; len = a′; filter = a″ }) ∙ rw (byte, ← e, q, ← (x .meaning), z, ← last-is, u));
-                inside = (record { id = omega arith; first = rw (v .0) (v .1); last = rw (v′ .0) (v′ .1) }, v′ .1);
+                inside = record { id = omega arith; first = rw (v .0) (v .1); last = rw (v′ .0) (v′ .1); past = v′ .1 };
               }
 
 module _ (s : List ℕ) (at : ℕ) where

@@ -3,7 +3,7 @@
 use Prim.Native.Nat.{ℕ, _+_, _-_, _^_, _<_, _≤_}
 use native.Mathlib.Omega.{arith}
 use native.Mathlib.Nat.{add-zero}
-use mathlib.Core.Path.{_≡_}
+use mathlib.Core.Path.{_≡_, sym}
 use mathlib.Core.Bool.{Bool, true, false}
 use mathlib.Core.List.{List}
 use lib.ListN.{length, getD, take, drop, length-drop, drop-of-length-le}
@@ -19,6 +19,7 @@ use Rattle.format.specs.declared.range.RangeRead.the-variants.{At as RangeAt, S
 use Rattle.records.specs.Form.{range, readIf}
 use Rattle.records.specs.Layouts.{flagOf, table, view}
 use Rattle.records.specs.Spans.{flagRead, rangeIf, visibleRead, VisibleFound, TableFound, ViewFound}
+use Rattle.records.specs.There.{TableThere}
 use Rattle.records.specs.declared.fields.FlagRead.{FlagRead}
 use Rattle.records.specs.declared.fields.FlagRead.the-variants.{Is, Stop as FlagStop}
 use Rattle.records.specs.declared.tables.TableSpan.{TableSpan}
@@ -28,7 +29,7 @@ use Rattle.records.specs.declared.views.ViewRead.the-variants.{At, Stop}
 use Rattle.records.proofs.FieldExits.{bytes-is, byte-is, bytes-short, number-short}
 
 -- ---- visible_at
-abbrev free : ℕ → BoundSpan
+abbrev pub free : ℕ → BoundSpan
 free at = record { kind = Unbounded; at = at; len = 0 }
 
 module _ (s : List ℕ) (at : ℕ) {f : Bool} where
@@ -46,6 +47,57 @@ module _ (s : List ℕ) (at : ℕ) {f : Bool} where
 
 pub ruleset visible-exits = (range-there, range-absent)
 
+-- ---- view_of
+module _ (s : List ℕ) (at : ℕ) {t : TableSpan} (h : at + 16 ≤ length s) (x : TableThere s (table .read (drop (at + 16) s)) t) where
+  abbrev p : ℕ
+  p = t .past
+
+  id-is : readBytes 16 (drop at s) ≡ got (take 16 (drop at s)) (drop (at + 16) s)
+  id-is = bytes-is s at 16 h
+
+  pub no-flag : length s ≤ p → ViewFound s (view .read (drop at s)) (Stop 1)
+  unfolding view
+  no-flag l =
+      record {
+        meaning = rw (id-is, x .meaning, number-short 1 (drop p s) (rw (drop-of-length-le s {i = p} l) (omega arith)));
+        inside = tt;
+      }
+
+  module _ (l : p < length s) {b : FlagRead} (e : flagRead b ≡ flagOf (getD s p 0)) where
+    pub bad-visible : {k : ℕ} → b ≡ FlagStop k → ViewFound s (view .read (drop at s)) (Stop k)
+    unfolding view
+    bad-visible z = record { meaning = rw (id-is, x .meaning, byte-is s p l, ← e, z); inside = tt }
+
+    module _ {f : Bool} (z : b ≡ Is f) {c : RangeRead} (y : VisibleFound s f (rangeIf f (drop (p + 1) s)) c) where
+      range-is : visibleRead s f c ≡ readIf range f (drop (p + 1) s)
+      unfolding rangeIf
+      range-is = y .meaning
+
+      pub bad-range : {k : ℕ} → c ≡ RangeStop k → ViewFound s (view .read (drop at s)) (Stop k)
+      unfolding view
+      bad-range u = record { meaning = rw (id-is, x .meaning, byte-is s p l, ← e, z, ← range-is, u); inside = tt }
+
+      pub view-read :
+          {i j : BoundSpan} {n : ℕ}
+          → c ≡ RangeAt i j n
+          → ViewFound s (view .read (drop at s)) (At (record { id = at; table = t; shown = f; start = i; end = j; past = n }))
+      unfolding view
+      view-read u =
+          let v = rw u at (y .inside) in
+          record {
+            meaning = rw (id-is, x .meaning, byte-is s p l, ← e, z, ← range-is, u);
+            inside = record { id = h; table = x .inside; start = v .0; end = v .1 .0; past = v .1 .1 };
+          }
+
+module _ (s : List ℕ) (p : ℕ) (l : p < length s) where
+  pub range-fits : length s < 2 ^ 64 → Fits w64 (p + 1)
+  range-fits k = omega arith
+
+  pub range-place : p + 1 ≤ length s
+  range-place = omega arith
+
+pub ruleset view-of-exits = (no-flag, bad-visible, bad-range, view-read, range-fits, range-place)
+
 -- ---- view_at
 module _ (s : List ℕ) (at : ℕ) where
   pub no-id : at ≤ length s → length s - at < 16 → ViewFound s (view .read (drop at s)) (Stop 1)
@@ -58,54 +110,13 @@ module _ (s : List ℕ) (at : ℕ) where
   pub table-place : 16 ≤ length s - at → at + 16 ≤ length s
   table-place h = omega arith
 
-  module _ (h : 16 ≤ length s - at) {w : TableRead} (x : TableFound s (table .read (drop (at + 16) s)) w) where
-    id-is : readBytes 16 (drop at s) ≡ got (take 16 (drop at s)) (drop (at + 16) s)
-    id-is = bytes-is s at 16 (omega arith)
-
-    pub bad-table : {k : ℕ} → w ≡ TableStop k → ViewFound s (view .read (drop at s)) (Stop k)
+  module _ {w : TableRead} (x : TableFound s (table .read (drop (at + 16) s)) w) where
+    pub bad-table : {k : ℕ} → 16 ≤ length s - at → w ≡ TableStop k → ViewFound s (view .read (drop at s)) (Stop k)
     unfolding view
-    bad-table q = record { meaning = rw (id-is, ← (x .meaning), q); inside = tt }
+    bad-table h q =
+        record { meaning = rw (bytes-is s at 16 (omega arith), ← (x .meaning), q); inside = tt }
 
-    module _ {t : TableSpan} {p : ℕ} (q : w ≡ TableAt t p) where
-      pub no-flag : length s ≤ p → ViewFound s (view .read (drop at s)) (Stop 1)
-      unfolding view
-      no-flag l =
-          record {
-            meaning = rw (id-is, ← (x .meaning), q, number-short 1 (drop p s) (rw (drop-of-length-le s {i = p} l) (omega arith)));
-            inside = tt;
-          }
+    pub table-found : {t : TableSpan} → w ≡ TableAt t → TableThere s (table .read (drop (at + 16) s)) t
+    table-found q = record { meaning = sym (rw q at (x .meaning)); inside = rw q at (x .inside) }
 
-      pub range-fits : p < length s → length s < 2 ^ 64 → Fits w64 (p + 1)
-      range-fits l k = omega arith
-
-      pub range-place : p < length s → p + 1 ≤ length s
-      range-place l = omega arith
-
-      module _ (l : p < length s) {b : FlagRead} (e : flagRead b ≡ flagOf (getD s p 0)) where
-        pub bad-visible : {k : ℕ} → b ≡ FlagStop k → ViewFound s (view .read (drop at s)) (Stop k)
-        unfolding view
-        bad-visible z = record { meaning = rw (id-is, ← (x .meaning), q, byte-is s p l, ← e, z); inside = tt }
-
-        module _ {f : Bool} (z : b ≡ Is f) {c : RangeRead} (y : VisibleFound s f (rangeIf f (drop (p + 1) s)) c) where
-          range-is : visibleRead s f c ≡ readIf range f (drop (p + 1) s)
-          unfolding rangeIf
-          range-is = y .meaning
-
-          pub bad-range : {k : ℕ} → c ≡ RangeStop k → ViewFound s (view .read (drop at s)) (Stop k)
-          unfolding view
-          bad-range u = record { meaning = rw (id-is, ← (x .meaning), q, byte-is s p l, ← e, z, ← range-is, u); inside = tt }
-
-          pub view-read :
-              {i j : BoundSpan} {n : ℕ}
-              → c ≡ RangeAt i j n
-              → ViewFound s (view .read (drop at s)) (At (record { id = at; table = t; shown = f; start = i; end = j }) n)
-          unfolding view
-          view-read u =
-              let v = rw q at (x .inside) in
-              let v′ = rw u at (y .inside) in
-              record {
-                meaning = rw (id-is, ← (x .meaning), q, byte-is s p l, ← e, z, ← range-is, u);
-                inside = (record { id = omega arith; table = v .0; start = v′ .0; end = v′ .1 .0 }, v′ .1 .1);
-              }
-
-pub ruleset view-exits = (no-id, table-fits, table-place, bad-table, no-flag, range-fits, range-place, bad-visible, bad-range, view-read)
+pub ruleset view-exits = (no-id, table-fits, table-place, bad-table, table-found)

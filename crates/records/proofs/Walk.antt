@@ -10,7 +10,7 @@ use Rattle.format.specs.Got.{Got, got, stop}
 use Rattle.records.specs.Form.{readMany}
 use Rattle.records.specs.Found.{isGot}
 use Rattle.records.proofs.Many.{Reading, begin, onward, all-read, no-stop, Ahead, ahead, Front, front}
-use Rattle.records.proofs.There.{here-got}
+use Rattle.records.proofs.RunsThere.{here-got}
 
 pub record Walk {A : Type 0} (f : List ℕ → Got A) (s : List ℕ) (from n k at : ℕ) (seen : List A) : Type 0 where
   pub reading : Reading f s from n (n - k) at seen

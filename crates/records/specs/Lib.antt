@@ -4,4 +4,5 @@ pub mod Layouts
 pub mod Laws
 pub mod Found
 pub mod Spans
+pub mod There
 pub mod Examples

@@ -82,13 +82,14 @@ pub record TableInside (s : List ℕ) (t : TableSpan) : Type 0 where
   pub id : t .id + 16 ≤ length s
   pub first : t .«first_at» + t .«first_len» ≤ length s
   pub last : t .«last_at» + t .«last_len» ≤ length s
+  pub past : t .past ≤ length s
 
 abbrev pub tableRead : List ℕ → TableRead → Got Table
-tableRead s (TableAt t next) = got (tableIn s t) (drop next s)
+tableRead s (TableAt t) = got (tableIn s t) (drop (t .past) s)
 tableRead s (TableStop n) = stop n
 
 abbrev pub TableReadInside : List ℕ → TableRead → Type 0
-TableReadInside s (TableAt t next) = TableInside s t × (next ≤ length s)
+TableReadInside s (TableAt t) = TableInside s t
 TableReadInside s (TableStop n) = Unit
 
 -- the table that a reader finds stands where the answer says
@@ -121,13 +122,14 @@ pub record ViewInside (s : List ℕ) (v : ViewSpan) : Type 0 where
   pub table : TableInside s (v .table)
   pub start : BoundInside s (v .start)
   pub end : BoundInside s (v .end)
+  pub past : v .past ≤ length s
 
 abbrev pub viewRead : List ℕ → ViewRead → Got View
-viewRead s (ViewAt v next) = got (viewIn s v) (drop next s)
+viewRead s (ViewAt v) = got (viewIn s v) (drop (v .past) s)
 viewRead s (ViewStop n) = stop n
 
 abbrev pub ViewReadInside : List ℕ → ViewRead → Type 0
-ViewReadInside s (ViewAt v next) = ViewInside s v × (next ≤ length s)
+ViewReadInside s (ViewAt v) = ViewInside s v
 ViewReadInside s (ViewStop n) = Unit
 
 pub record ViewFound (s : List ℕ) (g : Got View) (r : ViewRead) : Type 0 where

@@ -1,5 +1,4 @@
 // Fields that several layouts have: numbers that are there, and flags.
-use format::Number;
 ghost use mathlib.Core.Path.{_≡_};
 ghost use Prim.Native.Nat.{_≤_, _+_};
 ghost use lib.ListN.{length, drop};
@@ -13,10 +12,7 @@ pub fn number_here(s: &[u8], at: usize, n: usize) -> u64
     requires { ⌜ n ≤ 8 ⌝ ∗ ⌜ at + n ≤ length (now s) ⌝ }
     ensures { λ r. ⌜ readNumber n (drop at (now (s .entry))) ≡ got r (drop (at + n) (now (s .entry))) ⌝ }
 {
-    match format::number_at(s, at, n) {
-        Number::Short => 0,
-        Number::Value(v) => v,
-    }
+    format::number_there(s, at, n)
 }
 
 // What a flag and its 7 bits of padding say.

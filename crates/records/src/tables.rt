@@ -8,7 +8,8 @@ ghost use lib.ListN.{length, drop};
 ghost use Rattle.records.specs.Layouts.{table};
 ghost use Rattle.records.specs.Spans.{LastFound, TableFound, lastIf};
 
-// Where a table's fields stand: id is the place of its id. Without a last key, flagged is false and the last span is empty.
+// Where a table's fields stand: id is the place of its id, past the place past it. Without a last key, flagged is false and
+// the last span is empty.
 pub struct TableSpan {
     pub id: usize,
     pub index_offset: u64,
@@ -19,11 +20,11 @@ pub struct TableSpan {
     pub flagged: bool,
     pub last_at: usize,
     pub last_len: usize,
+    pub past: usize,
 }
 
-// A table, and the place past it.
 pub enum TableRead {
-    At(TableSpan, usize),
+    At(TableSpan),
     Stop(u8),
 }
 
@@ -68,20 +69,18 @@ pub fn table_at(s: &[u8], at: usize) -> TableRead
                     let index_offset = number_here(s, at + 16, 8);
                     let index_len = number_here(s, at + 24, 8);
                     let filter_offset = number_here(s, at + 32, 8);
-                    TableRead::At(
-                        TableSpan {
-                            id: at,
-                            index_offset,
-                            index_len,
-                            filter_offset,
-                            first_at,
-                            first_len,
-                            flagged,
-                            last_at,
-                            last_len,
-                        },
+                    TableRead::At(TableSpan {
+                        id: at,
+                        index_offset,
+                        index_len,
+                        filter_offset,
+                        first_at,
+                        first_len,
+                        flagged,
+                        last_at,
+                        last_len,
                         past,
-                    )
+                    })
                 }
             },
         },

@@ -9,21 +9,22 @@ use format::BoundSpan;
 use format::RangeRead;
 ghost use Prim.Native.Nat.{_≤_, _+_};
 ghost use lib.ListN.{length, drop};
-ghost use Rattle.records.specs.Layouts.{view};
+ghost use Rattle.records.specs.Layouts.{table, view};
 ghost use Rattle.records.specs.Spans.{VisibleFound, ViewFound, rangeIf};
+ghost use Rattle.records.specs.There.{TableThere};
 
-// Where a view's fields stand: id is the place of its id. Without a visible range, shown is false.
+// Where a view's fields stand: id is the place of its id, past the place past it. Without a visible range, shown is false.
 pub struct ViewSpan {
     pub id: usize,
     pub table: TableSpan,
     pub shown: bool,
     pub start: BoundSpan,
     pub end: BoundSpan,
+    pub past: usize,
 }
 
-// A view, and the place past it.
 pub enum ViewRead {
-    At(ViewSpan, usize),
+    At(ViewSpan),
     Stop(u8),
 }
 
@@ -47,6 +48,35 @@ fn visible_at(shown: bool, s: &[u8], at: usize) -> RangeRead
     }
 }
 
+// The view at a place whose table was read.
+fn view_of(s: &[u8], at: usize, t: TableSpan) -> ViewRead
+    requires { ⌜ at + 16 ≤ length (now s) ⌝ ∗ ⌜ TableThere (now s) (table .read (drop (at + 16) (now s))) t ⌝ }
+    ensures { λ r. ⌜ ViewFound (now (s .entry)) (view .read (drop at (now (s .entry)))) r ⌝ }
+{
+    let p = t.past;
+    if s.len() <= p {
+        return ViewRead::Stop(1);
+    }
+    match flag_of(s[p]) {
+        FlagRead::Stop(n) => ViewRead::Stop(n),
+        FlagRead::Is(shown) => match visible_at(shown, s, p + 1) {
+            RangeRead::Stop(n) => ViewRead::Stop(n),
+            RangeRead::At {
+                start,
+                end,
+                next: past,
+            } => ViewRead::At(ViewSpan {
+                id: at,
+                table: t,
+                shown,
+                start,
+                end,
+                past,
+            }),
+        },
+    }
+}
+
 // The view at a place.
 pub fn view_at(s: &[u8], at: usize) -> ViewRead
     requires { ⌜ at ≤ length (now s) ⌝ }
@@ -57,26 +87,6 @@ pub fn view_at(s: &[u8], at: usize) -> ViewRead
     }
     match table_at(s, at + 16) {
         TableRead::Stop(n) => ViewRead::Stop(n),
-        TableRead::At(table, p) => {
-            if s.len() <= p {
-                return ViewRead::Stop(1);
-            }
-            match flag_of(s[p]) {
-                FlagRead::Stop(n) => ViewRead::Stop(n),
-                FlagRead::Is(shown) => match visible_at(shown, s, p + 1) {
-                    RangeRead::Stop(n) => ViewRead::Stop(n),
-                    RangeRead::At { start, end, next } => ViewRead::At(
-                        ViewSpan {
-                            id: at,
-                            table,
-                            shown,
-                            start,
-                            end,
-                        },
-                        next,
-                    ),
-                },
-            }
-        }
+        TableRead::At(t) => view_of(s, at, t),
     }
 }

@@ -1,5 +1,7 @@
 //! What the calls answer. Values are the originals'; stops are those of `checks`.
 pub mod commits;
 pub mod images;
+pub mod lookups;
 pub mod paper;
+pub mod plain;
 pub mod ranges;

@@ -6,7 +6,7 @@ use oracle::checks::{read_image, Checked, Stop};
 use oracle::inputs::commits as inputs;
 use oracle::inputs::commits::{Inputs, Takes, MOST_ROOM};
 use oracle::inputs::Chance;
-use oracle::records::{arguments, record, HEAD};
+use oracle::records::{arguments, pieces, record, Piece};
 use std::collections::{BTreeMap, HashMap, HashSet};
 use std::io::Write;
 
@@ -33,44 +33,13 @@ impl<W: Write> Output<W> {
         self.to.write_all(&record).unwrap();
     }
 
-    /// Makes one of the buffers hold these bytes: what it shares with those before is kept, and
-    /// what repeats bytes that stand before it is not written out.
+    /// Makes one of the buffers hold these bytes.
     fn hold(&mut self, which: usize, buffer: &[u8]) {
-        const LEAST: usize = 2 * HEAD;
-        const WINDOW: usize = 16;
-        let held = std::mem::take(&mut self.held[which]);
-        let same = buffer.iter().zip(&held).take_while(|(a, b)| a == b);
-        let kept = same.count();
-        if kept == buffer.len() && kept == held.len() {
-            self.held[which] = held;
-            return;
-        }
-        // Where the bytes at a place were seen last.
-        let mut last: HashMap<&[u8], usize> = HashMap::new();
-        let window = |at: usize| buffer.get(at..at + WINDOW);
-        last.extend((0..kept).filter_map(|at| Some((window(at)?, at))));
-        let (mut written, mut at) = (kept, kept);
-        let mut pieces = 0;
-        while at < buffer.len() {
-            let before = window(at).and_then(|bytes| last.get(bytes).copied());
-            let length = before.map_or(0, |before| {
-                let pairs = buffer[at..].iter().zip(&buffer[before..]);
-                pairs.take_while(|(a, b)| a == b).count()
-            });
-            let end = at + length.max(1);
-            if length > LEAST {
-                if pieces == 0 || written < at {
-                    self.record(which as u8, written, 0, &buffer[written..at]);
-                }
-                self.record(4 + which as u8, end, at - before.unwrap(), &[]);
-                pieces += 1;
-                written = end;
+        for piece in pieces(&self.held[which], buffer) {
+            match piece {
+                Piece::Put(kept, bytes) => self.record(which as u8, kept, 0, bytes),
+                Piece::Repeat(length, before) => self.record(4 + which as u8, length, before, &[]),
             }
-            last.extend((at..end).filter_map(|at| Some((window(at)?, at))));
-            at = end;
-        }
-        if pieces == 0 || written < buffer.len() {
-            self.record(which as u8, written, 0, &buffer[written..]);
         }
         self.held[which] = buffer.to_vec();
     }

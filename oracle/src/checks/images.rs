@@ -172,9 +172,8 @@ pub fn check_7(table: &Table) -> Checked<()> {
     Ok(())
 }
 
-/// The image, if it passes the checks 1 to 7.
-pub fn check_image(buffer: &[u8]) -> Checked<Vec<PlacedRun>> {
-    let image = read_image(buffer)?;
+/// The checks 4 to 7 of an image whose fields pass.
+pub fn check_read(image: &[PlacedRun]) -> Checked<()> {
     let views = || {
         let placed = image.iter().flat_map(|run| &run.views);
         placed.map(|placed| &placed.view)
@@ -186,8 +185,14 @@ pub fn check_image(buffer: &[u8]) -> Checked<Vec<PlacedRun>> {
     }
     views().try_for_each(check_4)?;
     views().try_for_each(check_5)?;
-    check_6(&image)?;
-    views().try_for_each(|view| check_7(&view.table))?;
+    check_6(image)?;
+    views().try_for_each(|view| check_7(&view.table))
+}
+
+/// The image, if it passes the checks 1 to 7.
+pub fn check_image(buffer: &[u8]) -> Checked<Vec<PlacedRun>> {
+    let image = read_image(buffer)?;
+    check_read(&image)?;
     Ok(image)
 }
 

@@ -3,16 +3,20 @@
 mod commits;
 mod durable;
 mod images;
+mod indexes;
 mod jobs;
 mod lists;
+mod lookups;
 mod ranges;
 mod reader;
 
 pub use commits::*;
 pub use durable::*;
 pub use images::*;
+pub use indexes::*;
 pub use jobs::*;
 pub use lists::*;
+pub use lookups::*;
 pub use ranges::*;
 pub use reader::*;
 

@@ -19,6 +19,8 @@ const PART_CEILING: u8 = 64;
 const OUTPUT_CEILING: u16 = 1_024;
 /// The least bytes of a table, for the capacity of a list whose count promises too much.
 const TABLE_LEAST: usize = 43;
+/// The same of a block of an index.
+const BLOCK_LEAST: usize = 10;
 
 /// Numbers are read from the caller's bytes; keys are slices of one copy of them.
 pub(super) struct Fields<'a> {
@@ -161,6 +163,18 @@ impl<'a> Fields<'a> {
         }
         self.end()?;
         Ok(runs)
+    }
+
+    /// The first keys of an index. Its offsets are passed over.
+    pub(super) fn first_keys(&mut self) -> Checked<Vec<Bytes>> {
+        let count = usize::from(u16::from_be_bytes(self.take()?));
+        let mut keys = Vec::with_capacity(count.min(self.left() / BLOCK_LEAST));
+        for _ in 0..count {
+            let _offset: [u8; 8] = self.take()?;
+            keys.push(self.key()?);
+        }
+        self.end()?;
+        Ok(keys)
     }
 
     fn part(&mut self) -> Checked<Subcompaction> {

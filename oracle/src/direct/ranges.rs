@@ -59,11 +59,11 @@ struct Two {
     sides: Sides,
 }
 
-/// Where the keys of each of two ranges lie.
-struct Sides {
-    a_base: usize,
-    a_len: usize,
-    b_base: usize,
+/// Where the keys lie that two slices supply.
+pub(super) struct Sides {
+    pub(super) a_base: usize,
+    pub(super) a_len: usize,
+    pub(super) b_base: usize,
 }
 
 impl Two {
@@ -93,7 +93,7 @@ impl Sides {
         room.span(key_of(bound).map_or(0, Bytes::len), at)
     }
 
-    fn put_both(
+    pub(super) fn put_both(
         &self,
         bounds: Option<(Bound<&Bytes>, Bound<&Bytes>)>,
         out: &mut [u8],

@@ -4,6 +4,7 @@ mod chance;
 pub mod commits;
 pub mod images;
 mod keys;
+pub mod lookups;
 pub mod ranges;
 mod tables;
 mod writer;

@@ -1,5 +1,5 @@
-//! Writes ranges, images and jobs, and keeps where each field begins.
-use crate::{key_of, kind_of, Job, Range, Run, Table, View};
+//! Writes ranges, images, jobs and indexes, and keeps where each field begins.
+use crate::{key_of, kind_of, Block, Job, Key, Range, Run, Table, View};
 
 pub fn range_image(range: &Range) -> Vec<u8> {
     let mut bytes = vec![kind_of(&range.0) << 6 | kind_of(&range.1) << 4];
@@ -37,10 +37,12 @@ pub enum Field {
     PartCount,
     /// With the completed flag before it.
     OutputCount,
+    BlockCount,
+    Offset,
 }
 
 /// Where a field begins. Counts and kinds share their byte with what follows them. In a job
-/// a part stands for a run and its outputs for views.
+/// a part stands for a run and its outputs for views, in an index blocks do for views.
 #[derive(Clone, Copy)]
 pub struct Mark {
     pub field: Field,
@@ -150,4 +152,30 @@ pub fn write_job(job: &Job) -> (Vec<u8>, Vec<Mark>) {
         }
     }
     (writer.bytes, writer.marks)
+}
+
+/// An index's bytes and marks. The count is cut to 16 bits.
+pub fn write_index(blocks: &[Block]) -> (Vec<u8>, Vec<Mark>) {
+    let mut writer = Writer::default();
+    writer.put(Field::BlockCount, &(blocks.len() as u16).to_be_bytes());
+    for (place, block) in blocks.iter().enumerate() {
+        writer.view = place;
+        writer.put(Field::Offset, &block.offset.to_be_bytes());
+        writer.key(Field::FirstLength, Field::First, &block.first);
+    }
+    (writer.bytes, writer.marks)
+}
+
+/// Blocks of 4,096 bytes with these first keys.
+pub fn blocks(first_keys: &[Key]) -> Vec<Block> {
+    let offsets = (0..).step_by(4_096);
+    let blocks = first_keys.iter().zip(offsets).map(|(first, offset)| Block {
+        offset,
+        first: first.clone(),
+    });
+    blocks.collect()
+}
+
+pub fn index(first_keys: &[Key]) -> Vec<u8> {
+    write_index(&blocks(first_keys)).0
 }

@@ -1,4 +1,4 @@
-//! Images and jobs, field after field as document 01 lays them out, and buffers that are lent to a call.
+//! Images, jobs and indexes, field after field as document 01 lays them out, and buffers that are lent to a call.
 #![allow(dead_code)]
 use bilqarush::{range_image, Stop};
 use std::ops::Bound;
@@ -83,6 +83,16 @@ pub fn job(destination: u32, sources: &[u32], parts: &[Vec<u8>]) -> Vec<u8> {
     job.push(parts.len() as u8);
     job.extend(parts.concat());
     job
+}
+
+/// An index of blocks with these first keys.
+pub fn index(first_keys: &[&str]) -> Vec<u8> {
+    let mut index = (first_keys.len() as u16).to_be_bytes().to_vec();
+    for (first, offset) in first_keys.iter().zip((0u64..).step_by(4096)) {
+        index.extend(offset.to_be_bytes());
+        index.extend(key(first));
+    }
+    index
 }
 
 /// Document 01's example: run 7 with table 1 (first a, last c) and table 2 (first d, no last).

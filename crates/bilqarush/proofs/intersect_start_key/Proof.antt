@@ -38,12 +38,13 @@ use denote.Triple.Walked.{says, Stays, stay-none-slice, walkOf, goes-none-slice,
 use denote.Triple.Clauses.{ensured, lasts}
 use denote.Exit.{yes}
 use Rattle.bilqarush.specs.Calls.{startKeyOf, intersectStartKeyOutcome}
-use Rattle.bilqarush.specs.Answers.{jointOf, stopNumber, keyOf, PartFound}
-use Rattle.bilqarush.specs.declared.Joined.{Joined}
+use Rattle.format.specs.Span.{jointOf}
+use Rattle.bilqarush.specs.Answers.{stopNumber, keyOf, PartFound}
+use Rattle.format.specs.declared.span.Joined.{Joined}
 use Rattle.bilqarush.proofs.KeyPart as T
 use Rattle.bilqarush.proofs.KeyPart.Laws as T′
-use Rattle.bilqarush.proofs.Joined as J
-use Rattle.bilqarush.proofs.Joined.Laws as J′
+use Rattle.format.proofs.span.Joined as J
+use Rattle.format.proofs.span.Joined.Laws as J′
 use Rattle.bilqarush.proofs.intersect as both
 use Rattle.bilqarush.proofs.intersect.Symbol as both-def
 use Rattle.bilqarush.proofs.intersect.Symbol.{name as #bilqarush·intersect}

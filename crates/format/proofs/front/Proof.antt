@@ -13,9 +13,6 @@ Inv-loop t n v₀ i₀ v i = Reading t n i v
 abbrev μ-loop : tie.MeasureT-loop
 μ-loop t n v₀ i₀ v i = n - i
 
-returns : tie.Need-returns Inv-loop μ-loop
-returns c = search (needs, kept)
-
 loop-holds : tie.Need-loop-holds Inv-loop μ-loop
 loop-holds c = search (needs, kept)
 
@@ -40,8 +37,8 @@ loop-less c = search (needs, kept)
 loop-again : tie.Need-loop-again Inv-loop μ-loop
 loop-again c = search (needs, kept)
 
-returns-2 : tie.Need-returns-2 Inv-loop μ-loop
-returns-2 c = search (needs, kept)
+returns : tie.Need-returns Inv-loop μ-loop
+returns c = search (needs, kept)
 
 pub front-spec : {M : Type 1} → statement M
 front-spec =
@@ -49,7 +46,6 @@ front-spec =
     (tie.spec
     Inv-loop
     μ-loop
-    returns
     loop-holds
     mul-v
     shared-slice-read-wide
@@ -58,4 +54,4 @@ front-spec =
     add-i
     loop-less
     loop-again
-    returns-2)
+    returns)

@@ -7,7 +7,7 @@ use Rattle.measured.proofs.run_sized.Tie as tie
 use Rattle.measured.proofs.run_sized.Reads as reads
 use Rattle.measured.proofs.run_sized.Lts as lts
 use Rattle.compactor_state.proofs.is_source.Reads as is-source-reads
-use Rattle.db_state.proofs.views_end.Reads as views-end-reads
+use Rattle.records.proofs.views_end.Reads as views-end-reads
 use Rattle.measured.proofs.with_outputs.Reads as with-outputs-reads
 use Rattle.pieces.proofs.views_sized.Reads as views-sized-reads
 

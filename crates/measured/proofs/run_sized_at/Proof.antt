@@ -1,6 +1,6 @@
 -- `measured::run_sized_at` meets its contract.
 -- Assumes nothing.
-use Rattle.records.proofs.There.{views-place, views-most, views-there}
+use Rattle.records.proofs.RunsThere.{views-place, views-most, views-there}
 use Rattle.measured.proofs.Loop.{at-exits}
 use borrow.Author.Needs.{needs}
 use Rattle.measured.proofs.run_sized_at.Statement.{statement}

@@ -6,7 +6,7 @@ use Rattle.put_runs.proofs.put_other_run.Statement.{statement}
 use Rattle.put_runs.proofs.put_other_run.Tie as tie
 use Rattle.put_runs.proofs.put_other_run.Reads as reads
 use Rattle.put_runs.proofs.put_other_run.Lts as lts
-use Rattle.db_state.proofs.views_end.Reads as views-end-reads
+use Rattle.records.proofs.views_end.Reads as views-end-reads
 use Rattle.format.proofs.put.Reads as put-reads
 use Rattle.put_runs.proofs.put_head.Reads as put-head-reads
 

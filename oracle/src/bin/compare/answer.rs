@@ -3,6 +3,7 @@
 use crate::call::{hexadecimal, Call, Question};
 use oracle::answers::commits::{self, Deeds};
 use oracle::answers::images::{at, effective, listing};
+use oracle::answers::lookups::{self, Joint};
 use oracle::answers::ranges::{value, Sided, Value};
 use oracle::checks::{check_image, key_places, read_range, Checked, PlacedRun, Stop};
 use oracle::inputs::range_image;
@@ -45,6 +46,10 @@ pub enum Answer {
     Order(i8),
     Is(bool),
     Accepted,
+    /// A count or a partition.
+    Number(usize),
+    Found(Option<usize>),
+    Places(usize, usize),
     Wrote(Bytes),
 }
 
@@ -57,6 +62,10 @@ pub fn told(expected: &Expected) -> String {
         Ok(Answer::Order(order)) => format!("{order}"),
         Ok(Answer::Is(is)) => format!("{}", u8::from(*is)),
         Ok(Answer::Accepted) => "accepted".into(),
+        Ok(Answer::Number(number)) => format!("{number}"),
+        Ok(Answer::Found(None)) => "not found".into(),
+        Ok(Answer::Found(Some(place))) => format!("found {place}"),
+        Ok(Answer::Places(start, end)) => format!("{start}..{end}"),
         Ok(Answer::Wrote(Bytes { bytes, open })) => {
             let mut text = format!("{} bytes: {}", bytes.len(), hexadecimal(bytes));
             for open in open {
@@ -75,6 +84,10 @@ pub fn expected(question: &Question) -> Expected {
         Call::Commit => {
             let bytes = commits::answer(&question.case(), &mut Deeds::default())?;
             Ok(wrote(bytes))
+        }
+        call if call > Call::Commit => {
+            let known = lookups::value(&question.a, &question.asked());
+            expected_lookup(&known, question)
         }
         _ => expected_of(&value(&question.input()), question),
     }
@@ -139,6 +152,28 @@ fn joined(sided: &Sided, question: &Question) -> Bytes {
     answer.push_place(&range.0, given[usize::from(*start) - 1].0);
     answer.bytes.extend([kind_of(&range.1), *end]);
     answer.push_place(&range.1, given[usize::from(*end) - 1].1);
+    answer
+}
+
+/// Of a lookup whose answer with room enough is known.
+pub fn expected_lookup(known: &Checked<lookups::Value>, question: &Question) -> Expected {
+    match known.as_ref().map_err(|stop| *stop)? {
+        lookups::Value::Number(number) => Ok(Answer::Number(*number)),
+        lookups::Value::Found(found) => Ok(Answer::Found(*found)),
+        lookups::Value::Places(start, end) => Ok(Answer::Places(*start, *end)),
+        lookups::Value::Is(is) => Ok(Answer::Is(*is)),
+        lookups::Value::Joint(None) => fits(plain(vec![0]), question.room),
+        lookups::Value::Joint(Some(joint)) => fits(supplied(joint), question.room),
+    }
+}
+
+/// As `joined`, of bounds that lie in an image and in a range.
+fn supplied(joint: &Joint) -> Bytes {
+    let mut answer = plain(vec![1]);
+    for end in [&joint.start, &joint.end] {
+        answer.bytes.extend([kind_of(&end.bound), end.slice]);
+        answer.push_place(&end.bound, end.place);
+    }
     answer
 }
 

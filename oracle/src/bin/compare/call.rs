@@ -1,5 +1,6 @@
 //! The public calls, and what they are asked.
 use oracle::answers::commits::Case;
+use oracle::answers::lookups::Asked;
 use oracle::answers::ranges::{self, Input};
 
 #[derive(Clone, Copy, Debug, PartialEq, Eq, PartialOrd, Ord)]
@@ -19,10 +20,20 @@ pub enum Call {
     CompactedEffectiveRange,
     List,
     Commit,
+    PartitionPoint,
+    FirstPartitionIncludingKey,
+    FirstPartitionIncludingOrAfterKey,
+    LastPartitionIncludingKey,
+    PartitionsCoveringRange,
+    TableIdxCoveringRange,
+    OverlapsRange,
+    CompactedIntersection,
+    CalculateViewRange,
+    IntersectsRange,
 }
 
 impl Call {
-    pub const ALL: [Call; 15] = [
+    pub const ALL: [Call; 25] = [
         Call::Compare,
         Call::CmpBound,
         Call::NonEmpty,
@@ -38,6 +49,16 @@ impl Call {
         Call::CompactedEffectiveRange,
         Call::List,
         Call::Commit,
+        Call::PartitionPoint,
+        Call::FirstPartitionIncludingKey,
+        Call::FirstPartitionIncludingOrAfterKey,
+        Call::LastPartitionIncludingKey,
+        Call::PartitionsCoveringRange,
+        Call::TableIdxCoveringRange,
+        Call::OverlapsRange,
+        Call::CompactedIntersection,
+        Call::CalculateViewRange,
+        Call::IntersectsRange,
     ];
 
     pub fn name(self) -> &'static str {
@@ -57,6 +78,16 @@ impl Call {
             Call::CompactedEffectiveRange => "compacted_effective_range",
             Call::List => "list",
             Call::Commit => "commit",
+            Call::PartitionPoint => "partition_point",
+            Call::FirstPartitionIncludingKey => "first_partition_including_key",
+            Call::FirstPartitionIncludingOrAfterKey => "first_partition_including_or_after_key",
+            Call::LastPartitionIncludingKey => "last_partition_including_key",
+            Call::PartitionsCoveringRange => "partitions_covering_range",
+            Call::TableIdxCoveringRange => "table_idx_covering_range",
+            Call::OverlapsRange => "overlaps_range",
+            Call::CompactedIntersection => "compacted_intersection",
+            Call::CalculateViewRange => "calculate_view_range",
+            Call::IntersectsRange => "intersects_range",
         }
     }
 
@@ -64,10 +95,38 @@ impl Call {
         self < Call::CheckImage
     }
 
+    /// A lookup by its number, from 1 on.
+    pub fn of_lookup(number: u8) -> Call {
+        Call::ALL[Call::PartitionPoint as usize + usize::from(number) - 1]
+    }
+
+    /// The number of a lookup.
+    pub fn lookup(self) -> Option<u8> {
+        let before = Call::Commit as u8;
+        (self > Call::Commit).then(|| self as u8 - before)
+    }
+
+    pub fn is_in_indexes(self) -> bool {
+        (Call::PartitionPoint..=Call::PartitionsCoveringRange).contains(&self)
+    }
+
     /// Whether the call has a lent buffer for its answer.
     pub fn writes(self) -> bool {
         use Call::*;
-        !matches!(self, Compare | CmpBound | NonEmpty | Contains | CheckImage)
+        match self {
+            Compare | CmpBound | NonEmpty | Contains | CheckImage => false,
+            CompactedIntersection | CalculateViewRange => true,
+            other => other <= Commit,
+        }
+    }
+
+    /// Whether what it writes is a range with the slices that supply its bounds.
+    pub fn joins(self) -> bool {
+        use Call::*;
+        matches!(
+            self,
+            Intersect | Union | CompactedIntersection | CalculateViewRange
+        )
     }
 
     /// The names of its slices.
@@ -80,6 +139,10 @@ impl Call {
             Call::FromPrefixAndSubrange => &["prefix", "subrange"],
             Call::CheckImage | Call::CompactedEffectiveRange | Call::List => &["image"],
             Call::Commit => &["image", "job", "ids"],
+            Call::PartitionsCoveringRange => &["index", "range"],
+            Call::IntersectsRange => &["image", "range", "end"],
+            call if call.is_in_indexes() => &["index", "key"],
+            call if call > Call::Commit => &["image", "range"],
             _ => &["a", "b"],
         }
     }
@@ -89,15 +152,15 @@ impl Call {
 #[derive(Clone, Debug)]
 pub struct Question {
     pub call: Call,
-    /// Two slices and the id supply.
+    /// Two slices, and the id supply or the key of an end bound.
     pub a: Vec<u8>,
     pub b: Vec<u8>,
-    pub ids: Vec<u8>,
+    pub c: Vec<u8>,
     /// Kinds of bounds, or places of a run and a view.
     pub x: u64,
     pub y: u64,
-    /// Whether bounds are starts.
-    pub start: bool,
+    /// 1 if bounds are starts, or if the test is "at or below"; the kind of an end bound.
+    pub number: u8,
     /// Length of the lent buffer.
     pub room: usize,
 }
@@ -108,10 +171,10 @@ impl Question {
             call,
             a: a.to_vec(),
             b: b.to_vec(),
-            ids: vec![],
+            c: vec![],
             x: 0,
             y: 0,
-            start: false,
+            number: 0,
             room: 0,
         }
     }
@@ -120,7 +183,7 @@ impl Question {
         Question {
             x: input.x.into(),
             y: input.y.into(),
-            start: input.z == 1,
+            number: input.z,
             room: input.room,
             ..Question::new(call, &input.a, &input.b)
         }
@@ -128,9 +191,42 @@ impl Question {
 
     pub fn commit(case: &Case) -> Question {
         Question {
-            ids: case.ids.clone(),
+            c: case.ids.clone(),
             room: case.room,
             ..Question::new(Call::Commit, &case.image, &case.job)
+        }
+    }
+
+    /// A lookup in an index or an image.
+    pub fn lookup(buffer: &[u8], asked: &Asked) -> Question {
+        let call = Call::of_lookup(asked.call);
+        let (b, c) = match call.is_in_indexes() && call != Call::PartitionsCoveringRange {
+            true => (&asked.key, &asked.range),
+            false => (&asked.range, &asked.key),
+        };
+        Question {
+            c: c.clone(),
+            x: asked.run,
+            y: asked.view,
+            number: asked.number,
+            ..Question::new(call, buffer, b)
+        }
+    }
+
+    pub fn asked(&self) -> Asked {
+        let (b, c) = (self.b.clone(), self.c.clone());
+        let call = self.call;
+        let (key, range) = match call.is_in_indexes() && call != Call::PartitionsCoveringRange {
+            true => (b, c),
+            false => (c, b),
+        };
+        Asked {
+            call: call.lookup().expect("a lookup"),
+            run: self.x,
+            view: self.y,
+            number: self.number,
+            key,
+            range,
         }
     }
 
@@ -151,7 +247,7 @@ impl Question {
             call,
             x: self.x as u8,
             y: self.y as u8,
-            z: u8::from(self.start),
+            z: self.number,
             room: self.room,
             a: self.a.clone(),
             b: self.b.clone(),
@@ -162,30 +258,30 @@ impl Question {
         Case {
             image: self.a.clone(),
             job: self.b.clone(),
-            ids: self.ids.clone(),
+            ids: self.c.clone(),
             room: self.room,
         }
     }
 
     /// A number that tells questions apart.
     pub fn mark(&self) -> u64 {
-        let numbers = [self.x, self.y, self.start.into(), self.room as u64];
+        let numbers = [self.x, self.y, self.number.into(), self.room as u64];
         let mut mark = mark(self.call as u64, &self.a);
         mark = self::mark(mark, &self.b);
-        mark = self::mark(mark, &self.ids);
+        mark = self::mark(mark, &self.c);
         numbers.into_iter().fold(mark, mixed)
     }
 
     /// How much there is to read.
     pub fn size(&self) -> usize {
-        self.a.len() + self.b.len() + self.ids.len()
+        self.a.len() + self.b.len() + self.c.len()
     }
 }
 
 impl std::fmt::Display for Question {
     fn fmt(&self, to: &mut std::fmt::Formatter) -> std::fmt::Result {
         writeln!(to, "call      {}", self.call.name())?;
-        let slices = [&self.a, &self.b, &self.ids];
+        let slices = [&self.a, &self.b, &self.c];
         for (name, bytes) in self.call.slices().iter().zip(slices) {
             writeln!(
                 to,
@@ -196,10 +292,27 @@ impl std::fmt::Display for Question {
         }
         match self.call {
             Call::CmpBound => {
-                let of = if self.start { "starts" } else { "ends" };
+                let of = if self.number == 1 { "starts" } else { "ends" };
                 writeln!(to, "kinds     {} and {}, {of}", self.x, self.y)?;
             }
-            Call::CompactedEffectiveRange => {
+            Call::PartitionPoint => {
+                let test = if self.number == 1 {
+                    "at or below"
+                } else {
+                    "below"
+                };
+                writeln!(to, "test      {test}")?;
+            }
+            Call::TableIdxCoveringRange | Call::OverlapsRange => {
+                writeln!(to, "place     run {}", self.x)?;
+            }
+            Call::IntersectsRange => {
+                writeln!(to, "places    run {}, view {}", self.x, self.y)?;
+                writeln!(to, "end kind  {}", self.number)?;
+            }
+            Call::CompactedEffectiveRange
+            | Call::CompactedIntersection
+            | Call::CalculateViewRange => {
                 writeln!(to, "places    run {}, view {}", self.x, self.y)?;
             }
             _ => {}

@@ -24,8 +24,20 @@ pub struct Lent {
     pub room: usize,
     pub stop: u8,
     pub order: i8,
+    /// Also `found`.
     pub is: u8,
+    /// Also `count`, `partition` and `start`.
     pub written: usize,
+    pub end: usize,
+}
+
+/// The slots of a call.
+#[derive(PartialEq, Eq)]
+struct Slots {
+    order: i8,
+    is: u8,
+    written: usize,
+    end: usize,
 }
 
 impl Lent {
@@ -46,6 +58,7 @@ impl Lent {
             order: 0,
             is: 0,
             written: 0,
+            end: 0,
         }
     }
 
@@ -63,10 +76,40 @@ impl Lent {
         &self.noise[at..at + self.room + 3 * EDGE]
     }
 
-    /// The number slots before the call. A `bool` is 0 or 1.
-    fn slots(&self) -> (i8, u8, usize) {
+    /// The slots before the call. A `bool` is 0 or 1.
+    fn slots_before(&self) -> Slots {
         let mark = self.mark;
-        ((mark >> 16) as i8, (mark >> 24) as u8 & 1, mark as usize)
+        Slots {
+            order: (mark >> 16) as i8,
+            is: (mark >> 24) as u8 & 1,
+            written: mark as usize,
+            end: mark.rotate_left(29) as usize,
+        }
+    }
+
+    /// The slots as they must be after the call: an answer is told in its own, and no other changes.
+    fn slots_after(&self, expected: &Expected) -> Slots {
+        let mut slots = self.slots_before();
+        match expected {
+            Err(_) | Ok(Answer::Accepted) => {}
+            Ok(Answer::Order(order)) => slots.order = *order,
+            Ok(Answer::Is(is)) => slots.is = u8::from(*is),
+            Ok(Answer::Number(number)) => slots.written = *number,
+            Ok(Answer::Found(None)) => slots.is = 0,
+            Ok(Answer::Found(Some(place))) => (slots.is, slots.written) = (1, *place),
+            Ok(Answer::Places(start, end)) => (slots.written, slots.end) = (*start, *end),
+            Ok(Answer::Wrote(bytes)) => slots.written = bytes.bytes.len(),
+        }
+        slots
+    }
+
+    fn slots(&self) -> Slots {
+        Slots {
+            order: self.order,
+            is: self.is,
+            written: self.written,
+            end: self.end,
+        }
     }
 
     pub fn ask(&mut self, question: &Question) {
@@ -74,7 +117,7 @@ impl Lent {
         self.mark = question.mark();
         self.room = question.room;
         self.shift = (self.mark >> 32) as usize % 8;
-        let given = [&question.a, &question.b, &question.ids];
+        let given = [&question.a, &question.b, &question.c];
         for (slice, given) in self.slices.iter_mut().zip(given) {
             slice.clear();
             slice.resize(self.shift, 0);
@@ -84,7 +127,9 @@ impl Lent {
         memory.clear();
         memory.extend(self.pattern());
         self.memory = memory;
-        (self.order, self.is, self.written) = self.slots();
+        let slots = self.slots_before();
+        (self.order, self.is) = (slots.order, slots.is);
+        (self.written, self.end) = (slots.written, slots.end);
         self.call(question);
         if let Some(wrong) = self.wrong {
             wrong.apply(question, self);
@@ -93,13 +138,14 @@ impl Lent {
 
     /// Slices are never null, and what is written overlaps nothing else that is lent.
     fn call(&mut self, question: &Question) {
-        let [a, b, ids] = self.slices.each_ref().map(|slice| &slice[self.shift..]);
+        let [a, b, c] = self.slices.each_ref().map(|slice| &slice[self.shift..]);
         let (a, a_len, b, b_len) = (a.as_ptr(), a.len(), b.as_ptr(), b.len());
-        let (ids, ids_len) = (ids.as_ptr(), ids.len());
+        let (c, c_len) = (c.as_ptr(), c.len());
         let (from, room) = (self.from(), self.room);
         let out = self.memory[from..].as_mut_ptr();
-        let (x, y) = (question.x, question.y);
-        let (order, written) = (&mut self.order, &mut self.written);
+        let (x, y, number) = (question.x, question.y, question.number);
+        let (run, view) = (x as usize, y as usize);
+        let (order, written, end) = (&mut self.order, &mut self.written, &mut self.end);
         // A byte, so that the comparison sees every bit of the `bool`.
         let is = std::ptr::from_mut(&mut self.is).cast();
         // SAFETY: each pointer is valid for its length, and the slots are this struct's.
@@ -107,8 +153,7 @@ impl Lent {
             match question.call {
                 Call::Compare => bilqarush_compare(a, a_len, b, b_len, order),
                 Call::CmpBound => {
-                    let start = question.start;
-                    bilqarush_cmp_bound(x as u8, a, a_len, y as u8, b, b_len, start, order)
+                    bilqarush_cmp_bound(x as u8, a, a_len, y as u8, b, b_len, number == 1, order)
                 }
                 Call::NonEmpty => bilqarush_non_empty(a, a_len, is),
                 Call::Contains => bilqarush_contains(a, a_len, b, b_len, is),
@@ -127,12 +172,37 @@ impl Lent {
                 }
                 Call::CheckImage => bilqarush_check_image(a, a_len),
                 Call::CompactedEffectiveRange => {
-                    let (x, y) = (x as usize, y as usize);
-                    bilqarush_compacted_effective_range(a, a_len, x, y, out, room, written)
+                    bilqarush_compacted_effective_range(a, a_len, run, view, out, room, written)
                 }
                 Call::List => bilqarush_list(a, a_len, out, room, written),
-                Call::Commit => {
-                    bilqarush_commit(a, a_len, b, b_len, ids, ids_len, out, room, written)
+                Call::Commit => bilqarush_commit(a, a_len, b, b_len, c, c_len, out, room, written),
+                Call::PartitionPoint => {
+                    bilqarush_partition_point(a, a_len, number == 1, b, b_len, written)
+                }
+                Call::FirstPartitionIncludingKey => {
+                    bilqarush_first_partition_including_key(a, a_len, b, b_len, is, written)
+                }
+                Call::FirstPartitionIncludingOrAfterKey => {
+                    bilqarush_first_partition_including_or_after_key(a, a_len, b, b_len, written)
+                }
+                Call::LastPartitionIncludingKey => {
+                    bilqarush_last_partition_including_key(a, a_len, b, b_len, is, written)
+                }
+                Call::PartitionsCoveringRange => {
+                    bilqarush_partitions_covering_range(a, a_len, b, b_len, written, end)
+                }
+                Call::TableIdxCoveringRange => {
+                    bilqarush_table_idx_covering_range(a, a_len, run, b, b_len, written, end)
+                }
+                Call::OverlapsRange => bilqarush_overlaps_range(a, a_len, run, b, b_len, is),
+                Call::CompactedIntersection => bilqarush_compacted_intersection(
+                    a, a_len, run, view, b, b_len, out, room, written,
+                ),
+                Call::CalculateViewRange => bilqarush_calculate_view_range(
+                    a, a_len, run, view, b, b_len, out, room, written,
+                ),
+                Call::IntersectsRange => {
+                    bilqarush_intersects_range(a, a_len, run, view, number, c, c_len, b, b_len, is)
                 }
             }
         };
@@ -146,7 +216,7 @@ impl Lent {
     }
 
     fn fault_in_given(&self, question: &Question) -> Option<String> {
-        let given = [&question.a, &question.b, &question.ids];
+        let given = [&question.a, &question.b, &question.c];
         for (slice, given) in self.slices.iter().zip(given) {
             if slice[self.shift..] != given[..] {
                 return Some("a lent slice that is only read was changed".into());
@@ -160,25 +230,19 @@ impl Lent {
         if self.stop != due {
             return Some("the stops differ".into());
         }
-        let (order, is, written) = self.slots();
-        let same = match expected {
-            Err(_) => (self.order, self.is, self.written) == (order, is, written),
-            Ok(Answer::Order(order)) => self.order == *order,
-            Ok(Answer::Is(is)) => self.is == u8::from(*is),
-            Ok(Answer::Accepted) => true,
-            Ok(Answer::Wrote(bytes)) => {
-                let length = bytes.bytes.len();
-                return match self.written == length && bytes.is(&self.out()[..length]) {
-                    true => None,
-                    false => Some("the answers differ".into()),
-                };
+        if let Ok(Answer::Wrote(bytes)) = expected {
+            let length = bytes.bytes.len();
+            if self.written != length || !bytes.is(&self.out()[..length]) {
+                return Some("the answers differ".into());
             }
-        };
-        match (same, expected) {
-            (true, _) => None,
-            (false, Ok(_)) => Some("the answers differ".into()),
-            (false, Err(_)) => Some(format!("{} changed a slot after its stop", call.name())),
         }
+        if self.slots() == self.slots_after(expected) {
+            return None;
+        }
+        Some(match expected {
+            Ok(_) => "the answers differ, or a slot that has none was changed".into(),
+            Err(_) => format!("{} changed a slot after its stop", call.name()),
+        })
     }
 
     /// What lies behind the answer, or all of the lent buffer after a stop, and the edges.
@@ -209,7 +273,18 @@ impl Lent {
         match call {
             Call::Compare | Call::CmpBound => format!("{}", self.order),
             Call::NonEmpty | Call::Contains => format!("{}", self.is),
+            Call::OverlapsRange | Call::IntersectsRange => format!("{}", self.is),
             Call::CheckImage => "accepted".into(),
+            Call::PartitionPoint | Call::FirstPartitionIncludingOrAfterKey => {
+                format!("{}", self.written)
+            }
+            Call::FirstPartitionIncludingKey | Call::LastPartitionIncludingKey => match self.is {
+                0 => format!("not found (partition left as {})", self.written),
+                _ => format!("found {}", self.written),
+            },
+            Call::PartitionsCoveringRange | Call::TableIdxCoveringRange => {
+                format!("{}..{}", self.written, self.end)
+            }
             _ => {
                 let shown = &self.out()[..self.written.min(self.room)];
                 let shown = crate::call::hexadecimal(shown);

@@ -10,6 +10,7 @@ mod comparison;
 mod images;
 mod lent;
 mod lists;
+mod lookups;
 mod ranges;
 mod report;
 mod selftest;
@@ -28,6 +29,7 @@ fn compare(seed: u64, full: bool) -> ExitCode {
     commits::add(&mut shards, full);
     images::add(&mut shards, full);
     ranges::add(&mut shards, full);
+    lookups::add(&mut shards, full);
     let (tally, difference) = shards.run(None, true);
     println!("seed {seed}, {}", if full { "full" } else { "quick" });
     tally.print();

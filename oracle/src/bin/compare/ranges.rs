@@ -73,7 +73,7 @@ pub fn within(whole: &Expected, room: usize) -> Expected {
 
 /// Exactly enough or more; one time in four also too little. A room that was given is among
 /// them.
-fn rooms(whole: &Expected, given: usize, chance: u64) -> Vec<usize> {
+pub fn rooms(whole: &Expected, given: usize, chance: u64) -> Vec<usize> {
     let more = (chance >> 8) as usize % 40;
     let Ok(Answer::Wrote(bytes)) = whole else {
         return vec![[0, 1, 17, 40 + more][chance as usize % 4]];

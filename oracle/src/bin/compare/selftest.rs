@@ -8,7 +8,7 @@ use crate::lists::{committed_alone, list_fault};
 use crate::shards::Shards;
 use crate::shrink::smallest;
 use crate::wrong::{Kind, When, Wrong, KINDS};
-use crate::{commits, images, ranges};
+use crate::{commits, images, lookups, ranges};
 use oracle::answers::commits::Case;
 use oracle::guarded;
 use std::panic::{catch_unwind, AssertUnwindSafe};
@@ -20,6 +20,7 @@ fn shards_of(call: Call, seed: u64) -> Shards {
     match call {
         Call::Commit => commits::add(&mut shards, false),
         call if call.is_on_ranges() => ranges::add(&mut shards, false),
+        call if call.lookup().is_some() => lookups::add(&mut shards, false),
         _ => images::add(&mut shards, false),
     }
     shards
@@ -72,7 +73,12 @@ fn lists_are_judged(seed: u64) -> bool {
 /// whether it was found.
 fn single_inputs(seed: u64) -> Vec<(Call, bool)> {
     let mut found = vec![];
-    for group in [Call::Compare, Call::CheckImage, Call::Commit] {
+    for group in [
+        Call::Compare,
+        Call::CheckImage,
+        Call::Commit,
+        Call::PartitionPoint,
+    ] {
         let (tally, _) = shards_of(group, seed).run(None, false);
         found.extend(tally.picked.into_iter().map(|(call, mark)| {
             let wrong = Wrong {
@@ -110,7 +116,8 @@ pub fn run(seed: u64) -> bool {
         lists_are_judged(seed),
         "each byte that a list leaves".into(),
     );
-    // A view without keys has 60 bytes, a run's head 6. A commit needs a job besides.
+    // A view without keys has 60 bytes, a run's head 6. A commit needs a job besides. A block has 10
+    // bytes and its first key; a lookup needs a range besides.
     for (call, length, most) in [
         (Call::Compare, 3, 3),
         (Call::Contains, 4, 4),
@@ -118,6 +125,9 @@ pub fn run(seed: u64) -> bool {
         (Call::CheckImage, 68, 70),
         (Call::List, 68, 70),
         (Call::Commit, 68, 90),
+        (Call::PartitionPoint, 23, 24),
+        (Call::PartitionsCoveringRange, 23, 24),
+        (Call::CompactedIntersection, 128, 130),
     ] {
         let wrong = Wrong {
             call,

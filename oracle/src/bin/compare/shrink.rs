@@ -2,9 +2,9 @@
 use crate::call::{Call, Question};
 use crate::comparison::find;
 use crate::lent::Lent;
-use oracle::checks::{read_image, read_job, read_range, runs_of};
-use oracle::inputs::{image, range_image, write_job};
-use oracle::{key_of, Bound, Job, Key, Range, Run, Table};
+use oracle::checks::{read_image, read_index, read_job, read_range, runs_of};
+use oracle::inputs::{image, range_image, write_index, write_job};
+use oracle::{key_of, Block, Bound, Job, Key, Range, Run, Table};
 use std::time::Instant;
 
 /// No more than so many inputs are tried, for no longer than so many seconds.
@@ -15,9 +15,10 @@ const FINEST: usize = 64;
 
 /// What makes an input small: few bytes, then small numbers.
 fn weight(question: &Question) -> (usize, usize, u64, u64) {
-    let slices = [&question.a, &question.b, &question.ids];
+    let slices = [&question.a, &question.b, &question.c];
     let sum = slices.into_iter().flatten().map(|byte| u64::from(*byte));
     let places = question.x.saturating_add(question.y);
+    let places = places.saturating_add(question.number.into());
     (question.size(), question.room, places, sum.sum())
 }
 
@@ -43,16 +44,15 @@ pub fn smallest(question: Question, lent: &mut Lent) -> Question {
 /// Inputs that lack something, those that lack much before the others.
 fn smaller(question: &Question) -> Vec<Question> {
     let mut list = vec![];
-    let on_images = question.call >= Call::CheckImage;
     let with = |set: &dyn Fn(&mut Question)| {
         let mut other = question.clone();
         set(&mut other);
         other
     };
-    let as_values = if on_images {
-        smaller_images(&question.a)
-    } else {
-        smaller_ranges(&question.a)
+    let as_values = match question.call {
+        call if call.is_in_indexes() => smaller_indexes(&question.a),
+        call if call.is_on_ranges() => smaller_ranges(&question.a),
+        _ => smaller_images(&question.a),
     };
     for bytes in as_values {
         list.push(with(&|other| other.a.clone_from(&bytes)));
@@ -71,8 +71,8 @@ fn smaller(question: &Question) -> Vec<Question> {
     for bytes in smaller_bytes(&question.b) {
         list.push(with(&|other| other.b.clone_from(&bytes)));
     }
-    for bytes in smaller_bytes(&question.ids) {
-        list.push(with(&|other| other.ids.clone_from(&bytes)));
+    for bytes in smaller_bytes(&question.c) {
+        list.push(with(&|other| other.c.clone_from(&bytes)));
     }
     for room in [0, question.room / 2, question.room.saturating_sub(1)] {
         list.push(with(&|other| other.room = room));
@@ -82,6 +82,9 @@ fn smaller(question: &Question) -> Vec<Question> {
     }
     for place in [0, question.y / 2] {
         list.push(with(&|other| other.y = place));
+    }
+    for number in [0, question.number / 2] {
+        list.push(with(&|other| other.number = number));
     }
     list
 }
@@ -236,6 +239,27 @@ fn smaller_images(bytes: &[u8]) -> Vec<Vec<u8>> {
         }
     }
     list.iter().map(|runs| image(runs)).collect()
+}
+
+fn smaller_indexes(bytes: &[u8]) -> Vec<Vec<u8>> {
+    let Ok(blocks) = read_index(bytes) else {
+        return vec![];
+    };
+    let mut list = without(&blocks);
+    for (at, block) in blocks.iter().enumerate().take(20) {
+        let mut with = |block: Block| {
+            let mut other = blocks.clone();
+            other[at] = block;
+            list.push(other);
+        };
+        for first in smaller_keys(&block.first) {
+            let offset = block.offset;
+            with(Block { offset, first });
+        }
+        let first = block.first.clone();
+        with(Block { offset: 0, first });
+    }
+    list.iter().map(|blocks| write_index(blocks).0).collect()
 }
 
 fn smaller_jobs(bytes: &[u8]) -> Vec<Vec<u8>> {

@@ -6,10 +6,11 @@ use std::collections::BTreeMap;
 pub struct Tally {
     /// Of each call how many were answered, and how many refused by each stop.
     calls: BTreeMap<Call, [u64; 17]>,
-    /// Marks of the inputs of range calls, of the images and of the commits.
+    /// Marks of the inputs of range calls, of the images, of the commits and of the lookups.
     pub ranges: Vec<u64>,
     pub images: Vec<u64>,
     pub commits: Vec<u64>,
+    pub lookups: Vec<u64>,
     pub listed: u64,
     /// Lists, and those of them of whose last accepted record demand 3 speaks.
     pub lists: u64,
@@ -45,6 +46,7 @@ impl Tally {
         self.ranges.append(&mut more.ranges);
         self.images.append(&mut more.images);
         self.commits.append(&mut more.commits);
+        self.lookups.append(&mut more.lookups);
         self.listed += more.listed;
         self.lists += more.lists;
         self.held += more.held;
@@ -52,7 +54,7 @@ impl Tally {
 
     pub fn print(mut self) {
         println!(
-            "{:<26}{:>12}{:>12}  refused by each stop",
+            "{:<40}{:>12}{:>12}  refused by each stop",
             "call", "inputs", "answered"
         );
         for (call, counts) in &self.calls {
@@ -62,7 +64,7 @@ impl Tally {
                 .map(|stop| format!("{stop}: {}", counts[stop]))
                 .collect();
             let (name, stops) = (call.name(), stops.join(", "));
-            println!("{name:<26}{all:>12}{:>12}  {stops}", counts[0]);
+            println!("{name:<40}{all:>12}{:>12}  {stops}", counts[0]);
         }
         let ranges = distinct(&mut self.ranges);
         println!(
@@ -77,6 +79,8 @@ impl Tally {
              {} lists, {} of them held to demand 3",
             self.listed, self.lists, self.held
         );
+        let (all, lookups) = (self.lookups.len(), distinct(&mut self.lookups));
+        println!("lookups: {all} inputs, {lookups} of them distinct");
     }
 
     fn ranges_all(&self) -> u64 {

@@ -23,6 +23,12 @@ pub enum Kind {
     AfterStop,
     /// A number slot after a stop.
     Slot,
+    /// The slot of a partition, though none is found.
+    Partition,
+    /// The slice that supplies a bound.
+    Slice,
+    /// The place of a bound's key.
+    Place,
     /// A byte of a slice that is only read.
     Given,
     /// A byte right after the lent buffer, and one right before it.
@@ -30,7 +36,7 @@ pub enum Kind {
     Before,
 }
 
-pub const KINDS: [Kind; 11] = [
+pub const KINDS: [Kind; 14] = [
     Kind::Value,
     Kind::Count,
     Kind::Refused,
@@ -39,6 +45,9 @@ pub const KINDS: [Kind; 11] = [
     Kind::Rest,
     Kind::AfterStop,
     Kind::Slot,
+    Kind::Partition,
+    Kind::Slice,
+    Kind::Place,
     Kind::Given,
     Kind::After,
     Kind::Before,
@@ -71,6 +80,11 @@ impl Wrong {
             Kind::Count | Kind::Rest | Kind::AfterStop | Kind::After | Kind::Before => {
                 self.call.writes()
             }
+            Kind::Slice | Kind::Place => self.call.joins(),
+            Kind::Partition => matches!(
+                self.call,
+                Call::FirstPartitionIncludingKey | Call::LastPartitionIncludingKey
+            ),
             _ => true,
         }
     }
@@ -111,6 +125,16 @@ impl Wrong {
                 lent.order = !lent.order;
                 lent.is ^= 1;
                 lent.written ^= 1;
+                lent.end ^= 1;
+            }
+            Kind::Partition if !stopped && lent.is == 0 => lent.written ^= 1,
+            // Both bounds' slices; of the start's place the last byte, if it has a key.
+            Kind::Slice if !stopped && lent.written == 37 => {
+                lent.memory[from + 2] ^= 3;
+                lent.memory[from + 20] ^= 3;
+            }
+            Kind::Place if !stopped && lent.written == 37 && lent.memory[from + 1] != 0 => {
+                lent.memory[from + 10] ^= 1;
             }
             Kind::Given => {
                 if let Some(last) = lent.slices[0].last_mut() {
@@ -127,6 +151,10 @@ impl Wrong {
         match self.call {
             Call::Compare | Call::CmpBound => lent.order = if lent.order == 0 { 1 } else { 0 },
             Call::NonEmpty | Call::Contains => lent.is ^= 1,
+            Call::OverlapsRange | Call::IntersectsRange => lent.is ^= 1,
+            Call::PartitionPoint | Call::FirstPartitionIncludingOrAfterKey => lent.written ^= 1,
+            Call::FirstPartitionIncludingKey | Call::LastPartitionIncludingKey => lent.is ^= 1,
+            Call::PartitionsCoveringRange | Call::TableIdxCoveringRange => lent.end ^= 1,
             _ if lent.written > 0 => {
                 let from = lent.from();
                 // The last byte: a place that stands for nothing is never there.

@@ -159,6 +159,7 @@ fn harm_number(bytes: &mut [u8], marks: &[Mark], chance: &mut Chance) {
             let field = mark.field;
             matches!(field, RunCount | ViewCount | LastFlag | VisibleFlag | Head)
                 || matches!(field, FirstLength | LastLength | StartLength | EndLength)
+                || field == BlockCount
         })
         .collect();
     let mark = **chance.of(&numbers);
@@ -172,6 +173,18 @@ fn harm_number(bytes: &mut [u8], marks: &[Mark], chance: &mut Chance) {
             let padding = *chance.of(&[0, 0, 0, 1, 8, 15]);
             let count = (count << 4 | padding).to_be_bytes();
             bytes[mark.at..mark.at + 2].copy_from_slice(&count);
+        }
+        Field::BlockCount => {
+            let count = u16::from_be_bytes([bytes[0], bytes[1]]);
+            let count = *chance.of(&[
+                0,
+                1,
+                count.wrapping_sub(1),
+                count.wrapping_add(1),
+                6_553,
+                u16::MAX,
+            ]);
+            bytes[..2].copy_from_slice(&count.to_be_bytes());
         }
         Field::LastFlag | Field::VisibleFlag => {
             bytes[mark.at] ^= *chance.of(&[0x80, 0x80, 0x01, 0x40, 0x20]);

@@ -12,7 +12,7 @@ mod views;
 pub use ceilings::{ceilings, runs_with_views};
 pub use damage::{damage, harm};
 pub use ends::{cut_after, ends};
-pub use faults::pairs;
+pub use faults::{faulty, pairs, two_views, Fault, FAULTS};
 pub use papers::from_the_papers;
 pub use random::{random, random_runs};
 pub use views::{one_view, places, several, sums};

@@ -11,9 +11,9 @@ mod together;
 pub use damaged::damaged;
 pub use exhaustive::exhaustive;
 pub use long::{full_buffers, long_keys};
-pub use near::{near_ceilings, near_full};
+pub use near::{family_of, near_ceilings, near_full};
 pub use random::{family_image, random};
-pub use stops::{damages, lengths_at, stops};
+pub use stops::{damages, lengths_at, order_images, stops};
 pub use together::together;
 
 use super::{range_image, Chance};

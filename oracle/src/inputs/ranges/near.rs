@@ -6,7 +6,7 @@ use crate::checks::{BUFFER_CEILING, KEY_CEILING};
 use crate::inputs::{byte, Chance, Family};
 
 /// Keys of about so many bytes.
-fn family_of(length: usize, chance: &mut Chance) -> Family {
+pub fn family_of(length: usize, chance: &mut Chance) -> Family {
     let alphabet: &[u8] = *chance.of(&[&[0xFF][..], &[0x00, 0xFF], &[0x00, 0x01, 0x61], &[]]);
     let stem = (0..length).map(|_| byte(chance, alphabet)).collect();
     Family { stem, alphabet }

@@ -4,9 +4,6 @@ use Rattle.pieces.proofs.HeldExits.{table-end-exits}
 use borrow.Author.Needs.{needs}
 use Rattle.pieces.proofs.held.table_end.Statement.{statement}
 use Rattle.pieces.proofs.held.table_end.Tie as tie
-use Rattle.pieces.proofs.held.table_end.Reads as reads
-use Rattle.pieces.proofs.held.table_end.Lts as lts
-use Rattle.records.proofs.table_at.Reads as table-at-reads
 
 add-table-at : tie.Need-add-table-at
 add-table-at c = search needs
@@ -17,8 +14,8 @@ table-at-requires c κs = search (needs, table-end-exits)
 enum-told : tie.Need-enum-told
 enum-told c = search needs
 
-enum-known-end : tie.Need-enum-known-end
-enum-known-end c = search needs
+enum-known-t : tie.Need-enum-known-t
+enum-known-t c = search (needs, table-end-exits)
 
 returns : tie.Need-returns
 returns c = search (needs, table-end-exits)
@@ -28,4 +25,4 @@ returns-2 c = search (needs, table-end-exits)
 
 pub table-end-spec : {M : Type 1} → statement M
 table-end-spec =
-    tie.close (tie.spec add-table-at table-at-requires enum-told enum-known-end returns returns-2)
+    tie.close (tie.spec add-table-at table-at-requires enum-told enum-known-t returns returns-2)

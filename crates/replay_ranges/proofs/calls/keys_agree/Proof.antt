@@ -45,12 +45,12 @@ use denote.Triple.Table.{entered, cited}
 use denote.Triple.Walked.{Stays, stay-none, stay-none-slice, walkOf, goes-none, goes-none-slice, Walks, ends-at, walked, walk-meets}
 use denote.Triple.Clauses.{ensured}
 use denote.Exit.{yes}
-use Rattle.bilqarush.specs.declared.Joined.{Joined}
+use Rattle.format.specs.declared.span.Joined.{Joined}
 use Rattle.bilqarush.specs.declared.KeyPart.{KeyPart}
 use Rattle.bilqarush.proofs.KeyPart as T
 use Rattle.bilqarush.proofs.KeyPart.Laws as T′
-use Rattle.bilqarush.proofs.Joined as J
-use Rattle.bilqarush.proofs.Joined.Laws as J′
+use Rattle.format.proofs.span.Joined as J
+use Rattle.format.proofs.span.Joined.Laws as J′
 use Rattle.bilqarush.proofs.intersect_start_key as start
 use Rattle.bilqarush.proofs.intersect_start_key.Symbol as start-def
 use Rattle.bilqarush.proofs.intersect_start_key.Symbol.{name as #bilqarush·intersect-start-key}

@@ -1,0 +1,83 @@
+// The lookups in an index for C.
+ghost use mathlib.Core.Path.{_≡_};
+ghost use Rattle.partitioned_keyspace.specs.Calls.{partitionPointOutcome, firstPartitionIncludingKeyOutcome, firstPartitionIncludingOrAfterKeyOutcome, lastPartitionIncludingKeyOutcome, partitionsCoveringRangeOutcome};
+ghost use Rattle.bilqarush.specs.Answers.{stopOf};
+ghost use Rattle.told.specs.Told.{slot};
+ghost use Rattle.told.specs.Lookups.{testGiven, FoundTold, CoveredTold};
+
+#[no_mangle]
+pub extern "C" fn bilqarush_partition_point<'a>(
+    index: &'a [u8],
+    at_or_below: bool,
+    key: &'a [u8],
+    count: &mut usize,
+) -> u8
+    ensures { λ r. ⌜ r ≡ stopOf (partitionPointOutcome (now (index .entry)) (testGiven «at_or_below») (now (key .entry))) ⌝ }
+    ensures { λ _. ⌜ now (count .exit) ≡ slot (now (count .entry)) (partitionPointOutcome (now (index .entry)) (testGiven «at_or_below») (now (key .entry))) ⌝ }
+{
+    let test = told::test_given(at_or_below);
+    told::tell_count(bilqarush::partition_point(index, test, key), count)
+}
+
+#[no_mangle]
+pub extern "C" fn bilqarush_first_partition_including_key<'a>(
+    index: &'a [u8],
+    key: &'a [u8],
+    found: &mut bool,
+    partition: &mut usize,
+) -> u8
+    ensures { λ r. ⌜ FoundTold (firstPartitionIncludingKeyOutcome (now (index .entry)) (now (key .entry))) (now (found .entry)) (now (found .exit)) (now (partition .entry)) (now (partition .exit)) r ⌝ }
+{
+    told::tell_found(
+        bilqarush::first_partition_including_key(index, key),
+        found,
+        partition,
+    )
+}
+
+#[no_mangle]
+pub extern "C" fn bilqarush_first_partition_including_or_after_key<'a>(
+    index: &'a [u8],
+    key: &'a [u8],
+    partition: &mut usize,
+) -> u8
+    ensures { λ r. ⌜ r ≡ stopOf (firstPartitionIncludingOrAfterKeyOutcome (now (index .entry)) (now (key .entry))) ⌝ }
+    ensures { λ _. ⌜ now (partition .exit) ≡ slot (now (partition .entry)) (firstPartitionIncludingOrAfterKeyOutcome (now (index .entry)) (now (key .entry))) ⌝ }
+{
+    told::tell_count(
+        bilqarush::first_partition_including_or_after_key(index, key),
+        partition,
+    )
+}
+
+#[no_mangle]
+pub extern "C" fn bilqarush_last_partition_including_key<'a>(
+    index: &'a [u8],
+    key: &'a [u8],
+    found: &mut bool,
+    partition: &mut usize,
+) -> u8
+    ensures { λ r. ⌜ FoundTold (lastPartitionIncludingKeyOutcome (now (index .entry)) (now (key .entry))) (now (found .entry)) (now (found .exit)) (now (partition .entry)) (now (partition .exit)) r ⌝ }
+{
+    told::tell_found(
+        bilqarush::last_partition_including_key(index, key),
+        found,
+        partition,
+    )
+}
+
+#[no_mangle]
+pub extern "C" fn bilqarush_partitions_covering_range<'a>(
+    index: &'a [u8],
+    range: &'a [u8],
+    start: &mut usize,
+    end: &mut usize,
+) -> u8
+    ensures { λ r. ⌜ CoveredTold (partitionsCoveringRangeOutcome (now (index .entry)) (now (range .entry))) (now (start .entry)) (now (start .exit)) (now (end .entry)) (now (end .exit)) r ⌝ }
+{
+    told::tell_covered(
+        bilqarush::partitions_covering_range(index, range),
+        start,
+        end,
+    )
+}

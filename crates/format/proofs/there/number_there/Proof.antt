@@ -1,0 +1,25 @@
+-- `format::number_there` meets its contract.
+-- Assumes nothing.
+use Rattle.format.proofs.Digits.{number-exits}
+use borrow.Author.Needs.{needs}
+use Rattle.format.proofs.there.number_there.Statement.{statement}
+use Rattle.format.proofs.there.number_there.Tie as tie
+
+sub-front : tie.Need-sub-front
+sub-front c = search (needs, number-exits)
+
+part-front-start : tie.Need-part-front-start
+part-front-start c = search (needs, number-exits)
+
+part-front-end : tie.Need-part-front-end
+part-front-end c = search (needs, number-exits)
+
+front-requires : tie.Need-front-requires
+front-requires c κs = search (needs, number-exits)
+
+returns : tie.Need-returns
+returns c = search (needs, number-exits)
+
+pub number-there-spec : {M : Type 1} → statement M
+number-there-spec =
+    tie.close (tie.spec sub-front part-front-start part-front-end front-requires returns)

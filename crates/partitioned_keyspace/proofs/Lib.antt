@@ -1,0 +1,12 @@
+pub mod KeyTests
+pub mod Points
+pub mod HalvingLaws
+pub mod Holders
+pub mod Reckoned
+pub mod Coverings
+pub mod PassLaws
+pub mod PointExits
+pub mod BlockExits
+pub mod CallExits
+pub mod RangeExits
+pub mod Examples

@@ -1,0 +1,5 @@
+pub mod Passed
+pub mod ViewExits
+pub mod OverlapExits
+pub mod LeadExits
+pub mod CoveringExits

@@ -1,0 +1,10 @@
+pub mod Nth
+pub mod PlaceExits
+pub mod AskedExits
+pub mod MeetExits
+pub mod Past
+pub mod Leading
+pub mod CutExits
+pub mod ViewCalls
+pub mod RunViews
+pub mod KeptExits

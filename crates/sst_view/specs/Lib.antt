@@ -1,0 +1,4 @@
+pub mod Spans
+pub mod Asked
+pub mod Runs
+pub mod Views

@@ -1,0 +1,4 @@
+pub mod OrderExits
+pub mod PutExits
+pub mod Example
+pub mod LookupExample

@@ -1,0 +1,52 @@
+-- Each layout with places, once in bytes: the point of [ab,ab], the intersection of [ab,m] and (c,-, and the effective range of
+-- the first view of document 01's image. A place and a length are 8 bytes each, most significant first.
+use Prim.Native.Nat.{ℕ}
+use mathlib.Core.Path.{_≡_}
+use mathlib.Core.List.{List, [], _∷_}
+use Rattle.base.specs.Outcome.{answer}
+use Rattle.comparable_range.specs.declared.Kind.the-variants.{Included, Excluded}
+use Rattle.comparable_range.specs.declared.Side.the-variants.{First, Second}
+use Rattle.bilqarush.specs.Calls.{asPointOutcome, intersectOutcome}
+use Rattle.format.specs.Span.{JointFound}
+use Rattle.bilqarush.specs.Answers.{pointAt}
+use Rattle.bilqarush.specs.Example.{exampleRange}
+use Rattle.format.specs.declared.span.Joined.{Joined}
+use Rattle.format.specs.declared.span.Joined.the-variants.{Range}
+use Rattle.told.specs.Layouts.{pointTo, joinedTo, viewRangeTo}
+
+-- ---- a point: 1, the place, the length
+abbrev pub abToAb : List ℕ
+abToAb = 80 ∷ 0 ∷ 2 ∷ 97 ∷ 98 ∷ 0 ∷ 2 ∷ 97 ∷ 98 ∷ []
+
+abbrev pub PointIsTold : Type 0
+PointIsTold =
+    pointTo 17 (pointAt (asPointOutcome abToAb)) ≡ answer (1 ∷ 0 ∷ 0 ∷ 0 ∷ 0 ∷ 0 ∷ 0 ∷ 0 ∷ 3 ∷ 0 ∷ 0 ∷ 0 ∷ 0 ∷ 0 ∷ 0 ∷ 0 ∷ 2 ∷ [])
+
+-- ---- a range: 1; then of each bound the kind, the slice, the place and the length
+abbrev pub abToM : List ℕ
+abToM = 80 ∷ 0 ∷ 2 ∷ 97 ∷ 98 ∷ 0 ∷ 1 ∷ 109 ∷ []
+
+abbrev pub afterC : List ℕ
+afterC = 128 ∷ 0 ∷ 1 ∷ 99 ∷ []
+
+abbrev pub cToM : Joined
+cToM =
+    Range
+    (record { side = Second; bound = record { kind = Excluded; at = 3; len = 1 } })
+    (record { side = First; bound = record { kind = Included; at = 7; len = 1 } })
+
+abbrev pub JointIsFound : Type 0
+JointIsFound = JointFound abToM afterC (intersectOutcome abToM afterC) cToM
+
+abbrev pub JointIsTold : Type 0
+JointIsTold =
+    joinedTo 37 cToM
+    ≡ answer (1 ∷ 2 ∷ 2 ∷ 0 ∷ 0 ∷ 0 ∷ 0 ∷ 0 ∷ 0 ∷ 0 ∷ 3 ∷ 0 ∷ 0 ∷ 0 ∷ 0 ∷ 0 ∷ 0 ∷ 0 ∷ 1
+    ∷ 1 ∷ 1 ∷ 0 ∷ 0 ∷ 0 ∷ 0 ∷ 0 ∷ 0 ∷ 0 ∷ 7 ∷ 0 ∷ 0 ∷ 0 ∷ 0 ∷ 0 ∷ 0 ∷ 0 ∷ 1 ∷ [])
+
+-- ---- a view's range: of each bound the kind, the place and the length
+abbrev pub ViewRangeIsTold : Type 0
+ViewRangeIsTold =
+    viewRangeTo 34 exampleRange
+    ≡ answer (1 ∷ 0 ∷ 0 ∷ 0 ∷ 0 ∷ 0 ∷ 0 ∷ 0 ∷ 66 ∷ 0 ∷ 0 ∷ 0 ∷ 0 ∷ 0 ∷ 0 ∷ 0 ∷ 1
+    ∷ 1 ∷ 0 ∷ 0 ∷ 0 ∷ 0 ∷ 0 ∷ 0 ∷ 0 ∷ 69 ∷ 0 ∷ 0 ∷ 0 ∷ 0 ∷ 0 ∷ 0 ∷ 0 ∷ 1 ∷ [])

@@ -1,0 +1,5 @@
+pub mod Told
+pub mod Lookups
+pub mod Layouts
+pub mod Example
+pub mod LookupExample

@@ -1,0 +1,110 @@
+// How a call for C tells its answer: the number of the stop is returned, or 0; a number that it answers stands in a slot of the
+// caller's, bytes stand at the front of a lent buffer. A stop leaves slots and buffers as they were.
+pub mod answers;
+
+use base::Written;
+use bilqarush::Compared;
+use bilqarush::Counted;
+use bilqarush::Covered;
+use bilqarush::Found;
+use bilqarush::Test;
+use bilqarush::Tested;
+ghost use mathlib.Core.Path.{_≡_};
+ghost use Rattle.base.specs.Outcome.{testOf};
+ghost use Rattle.partitioned_keyspace.specs.Calls.{countOf, foundOf, coveredOf};
+ghost use Rattle.bilqarush.specs.Answers.{stopOf, orderOf};
+ghost use Rattle.told.specs.Told.{slot, counted};
+ghost use Rattle.told.specs.Lookups.{testGiven, FoundTold, CoveredTold};
+
+pub fn tell_order(c: Compared, order: &mut i8) -> u8
+    ensures { λ r. ⌜ r ≡ stopOf (orderOf c) ⌝ }
+    ensures { λ _. ⌜ now (order .exit) ≡ slot (now (order .entry)) (orderOf c) ⌝ }
+{
+    match c {
+        Compared::Stop(n) => n,
+        Compared::Order(o) => {
+            *order = o;
+            0
+        }
+    }
+}
+
+pub fn tell_test(t: Tested, is: &mut bool) -> u8
+    ensures { λ r. ⌜ r ≡ stopOf (testOf t) ⌝ }
+    ensures { λ _. ⌜ now (is .exit) ≡ slot (now (is .entry)) (testOf t) ⌝ }
+{
+    match t {
+        Tested::Stop(n) => n,
+        Tested::Is(b) => {
+            *is = b;
+            0
+        }
+    }
+}
+
+// How many bytes were written.
+pub fn tell(w: Written, written: &mut usize) -> u8
+    ensures { λ r. ⌜ r ≡ stopOf (counted w) ⌝ }
+    ensures { λ _. ⌜ now (written .exit) ≡ slot (now (written .entry)) (counted w) ⌝ }
+{
+    match w {
+        Written::Stop(n) => n,
+        Written::Wrote(n) => {
+            *written = n;
+            0
+        }
+    }
+}
+
+// The test that a flag stands for.
+pub fn test_given(at_or_below: bool) -> Test
+    ensures { λ r. ⌜ r ≡ testGiven «at_or_below» ⌝ }
+{
+    if at_or_below {
+        return Test::AtOrBelow;
+    }
+    Test::Below
+}
+
+pub fn tell_count(c: Counted, count: &mut usize) -> u8
+    ensures { λ r. ⌜ r ≡ stopOf (countOf c) ⌝ }
+    ensures { λ _. ⌜ now (count .exit) ≡ slot (now (count .entry)) (countOf c) ⌝ }
+{
+    match c {
+        Counted::Stop(n) => n,
+        Counted::Is(n) => {
+            *count = n;
+            0
+        }
+    }
+}
+
+pub fn tell_found(f: Found, found: &mut bool, partition: &mut usize) -> u8
+    ensures { λ r. ⌜ FoundTold (foundOf f) (now (found .entry)) (now (found .exit)) (now (partition .entry)) (now (partition .exit)) r ⌝ }
+{
+    match f {
+        Found::Stop(n) => n,
+        Found::Nothing => {
+            *found = false;
+            0
+        }
+        Found::At(p) => {
+            *found = true;
+            *partition = p;
+            0
+        }
+    }
+}
+
+pub fn tell_covered(c: Covered, start: &mut usize, end: &mut usize) -> u8
+    ensures { λ r. ⌜ CoveredTold (coveredOf c) (now (start .entry)) (now (start .exit)) (now (end .entry)) (now (end .exit)) r ⌝ }
+{
+    match c {
+        Covered::Stop(n) => n,
+        Covered::Places(s, e) => {
+            *start = s;
+            *end = e;
+            0
+        }
+    }
+}
