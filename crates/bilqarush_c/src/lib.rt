@@ -53,7 +53,10 @@ pub extern "C" fn bilqarush_contains(range: &[u8], key: &[u8], is: &mut bool) ->
 pub extern "C" fn bilqarush_as_point(range: &[u8], out: &mut [u8], written: &mut usize) -> u8
     ensures { λ r. ⌜ Told (pointTo (length (now (out .entry))) (pointAt (asPointOutcome (now (range .entry))))) (now (out .entry)) (now (out .exit)) (now (written .entry)) (now (written .exit)) r ⌝ }
 {
-    told::tell(told::answers::put_point(bilqarush::as_point(range), out), written)
+    told::tell(
+        told::answers::put_point(bilqarush::as_point(range), out),
+        written,
+    )
 }
 
 #[no_mangle]
@@ -110,7 +113,10 @@ pub extern "C" fn bilqarush_union<'a>(
 ) -> u8
     ensures { λ r. ⌜ JointTold (now (a .entry)) (now (b .entry)) (unionOutcome (now (a .entry)) (now (b .entry))) (now (out .entry)) (now (out .exit)) (now (written .entry)) (now (written .exit)) r ⌝ }
 {
-    told::tell(told::answers::put_joined(bilqarush::union(a, b), out), written)
+    told::tell(
+        told::answers::put_joined(bilqarush::union(a, b), out),
+        written,
+    )
 }
 
 #[no_mangle]

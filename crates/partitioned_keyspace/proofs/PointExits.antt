@@ -1,18 +1,18 @@
 -- The exits of the functions on a key's two numbers: each test that the code makes is the definition's.
 -- Assumes nothing.
 use Prim.Native.Nat.{ℕ, _+_, _-_, _≤_, _<_}
-use mathlib.Core.Path.{_≡_}
-use mathlib.Core.Bool.{Bool, true, false}
+use mathlib.Core.Path.{_≡_, refl, sym}
+use mathlib.Core.Bool.{Bool, true, false, true≢false}
 use borrow.Author.Tests.{lt-ltb, le-ltb}
 use Rattle.base.specs.Outcome.{answer}
-use Rattle.key.specs.Order.{Key, cmpKey, isEqual}
+use Rattle.key.specs.Order.{Key, cmpKey, isLess, isEqual}
 use Rattle.key.specs.declared.Order.{Order}
-use Rattle.key.specs.declared.Order.the-variants.{Less, Equal}
+use Rattle.key.specs.declared.Order.the-variants.{Less, Equal, Greater}
 use Rattle.comparable_range.specs.declared.Kind.{Kind}
 use Rattle.comparable_range.specs.declared.Kind.the-variants.{Included, Excluded}
 use Rattle.partitioned_keyspace.specs.Partitions.{keyEqual}
 use Rattle.partitioned_keyspace.specs.Calls.{foundOf, coveredOf}
-use Rattle.partitioned_keyspace.specs.KeyPoints.{grownBy, withFirst, firstOf, orAfterOf, lastOf, startOf, upToExcluded, endOf, coveringOf, isPoint}
+use Rattle.partitioned_keyspace.specs.KeyPoints.{grownBy, ledOrder, KnownBelow, firstOf, orAfterOf, lastOf, startOf, upToExcluded, endOf, coveringOf, isPoint}
 use Rattle.partitioned_keyspace.specs.declared.Found.the-variants.{At, Nothing}
 use Rattle.partitioned_keyspace.specs.declared.Covered.the-variants.{Places as CoveredPlaces}
 use Rattle.partitioned_keyspace.specs.declared.point.KeyPoint.{KeyPoint}
@@ -25,7 +25,7 @@ same-key a b e f = rw (f, e)
 pub is-one : (s e : Key) {ks ke : Kind} {r : Bool} → ks ≡ Included → ke ≡ Included → r ≡ keyEqual s e → r ≡ isPoint ks s ke e
 is-one s e p q f = rw (p, q, f)
 
--- ---- grown, with_first
+-- ---- grown
 module _ (p : KeyPoint) (seen : ℕ) where
   pub after-equal : {o : Order} → o ≡ Less → p .below < seen → record { below = p .below; «at_most» = seen + 1 } ≡ grownBy p seen o
   after-equal e h = rw (e, lt-ltb (p .below) seen h)
@@ -36,15 +36,25 @@ module _ (p : KeyPoint) (seen : ℕ) where
   pub one-equal : {o : Order} → o ≡ Equal → record { below = p .below; «at_most» = seen + 1 } ≡ grownBy p seen o
   one-equal e = rw e
 
-  pub one-above : (first x : Key) → p .«at_most» < seen → p ≡ withFirst p seen first x
-  unfolding withFirst
-  one-above first x h = rw (lt-ltb (p .«at_most») seen h)
+pub ruleset grown-exits = (after-equal, all-below, one-equal)
 
-  pub compared : (first x : Key) {o : Order} {r : KeyPoint} → seen ≤ p .«at_most» → o ≡ cmpKey first x → r ≡ grownBy p seen o → r ≡ withFirst p seen first x
-  unfolding withFirst
-  compared first x h e f = rw (f, e, le-ltb (p .«at_most») seen h)
+-- ---- led, led_to_end
+module _ (p : KeyPoint) (seen : ℕ) (first x : Key) where
+  pub one-above : p .«at_most» < seen → Greater ≡ ledOrder p seen first x
+  one-above h = rw (lt-ltb (p .«at_most») seen h)
 
-pub ruleset grown-exits = (after-equal, all-below, one-equal, one-above, compared)
+  pub compared : {o : Order} → seen ≤ p .«at_most» → o ≡ cmpKey first x → o ≡ ledOrder p seen first x
+  compared h e = rw (e, le-ltb (p .«at_most») seen h)
+
+  is-less : (o : Order) → isLess o ≡ true → Less ≡ o
+  is-less Less h = refl
+  is-less Equal h = absurd (true≢false (sym h))
+  is-less Greater h = absurd (true≢false (sym h))
+
+  pub known-below : {t : Bool} → KnownBelow t first x → seen ≤ p .«at_most» → t ≡ true → Less ≡ ledOrder p seen first x
+  known-below f h e = rw (le-ltb (p .«at_most») seen h) (is-less (cmpKey first x) (f .tells e))
+
+pub ruleset led-exits = (one-above, compared, known-below)
 
 -- ---- the lookups
 module _ (p : KeyPoint) where

@@ -1,5 +1,6 @@
 -- The two numbers that the code finds for a key in one pass over the first keys, and each lookup reckoned from them alone.
 use Prim.Native.Nat.{ℕ, _+_, _-_}
+use mathlib.Core.Path.{_≡_}
 use mathlib.Core.Bool.{Bool, true, false, _&&_}
 use mathlib.Core.Option.{Option, none, some}
 use mathlib.Core.List.{List}
@@ -7,7 +8,7 @@ use lib.ListN.{length}
 use lib.Dec.{ltb}
 use Rattle.base.specs.Pick.{pick}
 use Rattle.base.specs.Outcome.{Outcome, stop, answer, andThen}
-use Rattle.key.specs.Order.{Key, cmpKey, keyAtMost}
+use Rattle.key.specs.Order.{Key, cmpKey, keyAtMost, keyBelow}
 use Rattle.key.specs.declared.Order.{Order}
 use Rattle.key.specs.declared.Order.the-variants.{Less, Equal, Greater}
 use Rattle.comparable_range.specs.declared.Kind.{Kind}
@@ -40,6 +41,14 @@ grownBy p seen Greater = p
 unfoldable pub withFirst : KeyPoint → ℕ → Key → Key → KeyPoint
 withFirst p seen first x = pick (ltb (p .«at_most») seen) p (grownBy p seen (cmpKey first x))
 
+-- its order to the key as far as it counts
+abbrev pub ledOrder : KeyPoint → ℕ → Key → Key → Order
+ledOrder p seen first x = pick (ltb (p .«at_most») seen) Greater (cmpKey first x)
+
+-- a flag that is set only if a first key is below a key
+pub record KnownBelow (flag : Bool) (first x : Key) : Type 0 where
+  pub tells : flag ≡ true → keyBelow first x ≡ true
+
 -- one more first key, after another, in what the pass has found
 unfoldable pub withBlock : IndexPoints → Key → Key → Key → Key → IndexPoints
 withBlock x before first s e =
@@ -49,6 +58,15 @@ withBlock x before first s e =
       end = withFirst (x .end) (x .partitions) first e;
       ascends = x .ascends && keyAtMost before first;
     }
+
+-- before the first block
+abbrev pub nothingSeen : IndexPoints
+nothingSeen =
+    record { partitions = 0; start = record { below = 0; «at_most» = 0 }; end = record { below = 0; «at_most» = 0 }; ascends = true }
+
+-- a key that stands at a place
+abbrev pub keySpan : ℕ → ℕ → BoundSpan
+keySpan at len = record { kind = Included; at = at; len = len }
 
 -- what the pass finds for two keys
 abbrev pub indexPoints : Key → Key → List Key → IndexPoints

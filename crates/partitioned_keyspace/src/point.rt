@@ -8,7 +8,7 @@ ghost use Prim.Native.Nat.{_<_, _+_, _^_};
 ghost use Rattle.base.specs.Outcome.{answer};
 ghost use Rattle.partitioned_keyspace.specs.Partitions.{keyEqual};
 ghost use Rattle.partitioned_keyspace.specs.Calls.{foundOf};
-ghost use Rattle.partitioned_keyspace.specs.KeyPoints.{grownBy, withFirst, countFor, firstOf, orAfterOf, lastOf, startOf, upToExcluded, endOf};
+ghost use Rattle.partitioned_keyspace.specs.KeyPoints.{grownBy, ledOrder, KnownBelow, countFor, firstOf, orAfterOf, lastOf, startOf, upToExcluded, endOf};
 
 // How many first keys, from the first on, stand below a key, and how many at or below it.
 pub struct KeyPoint {
@@ -29,7 +29,7 @@ pub fn key_equal(a: &[u8], b: &[u8]) -> bool
 }
 
 // With one more first key, by its order to the key. One below it counts only if none before was equal.
-fn grown(p: KeyPoint, seen: usize, o: Order) -> KeyPoint
+pub fn grown(p: KeyPoint, seen: usize, o: Order) -> KeyPoint
     requires { ⌜ seen + 1 < 2 ^ 64 ⌝ }
     ensures { λ r. ⌜ r ≡ grownBy p seen o ⌝ }
 {
@@ -54,15 +54,28 @@ fn grown(p: KeyPoint, seen: usize, o: Order) -> KeyPoint
     }
 }
 
-// The same for a key. Once a first key was above it, no more are compared.
-pub fn with_first(p: KeyPoint, seen: usize, first: &[u8], key: &[u8]) -> KeyPoint
-    requires { ⌜ seen + 1 < 2 ^ 64 ⌝ }
-    ensures { λ r. ⌜ r ≡ withFirst p seen (now (first .entry)) (now (key .entry)) ⌝ }
+// The order of one more first key to a key. Once a first key was above it, no more are compared: none of them counts.
+pub fn led(p: KeyPoint, seen: usize, first: &[u8], key: &[u8]) -> Order
+    ensures { λ r. ⌜ r ≡ ledOrder p seen (now (first .entry)) (now (key .entry)) ⌝ }
 {
     if p.at_most < seen {
-        return p;
+        return Order::Greater;
     }
-    grown(p, seen, key::cmp(first, key))
+    key::cmp(first, key)
+}
+
+// The same to the end of a range. A first key that is known to be below it is not compared.
+pub fn led_to_end(p: KeyPoint, seen: usize, first: &[u8], end: &[u8], below: bool) -> Order
+    requires { ⌜ KnownBelow below (now first) (now end) ⌝ }
+    ensures { λ r. ⌜ r ≡ ledOrder p seen (now (first .entry)) (now (end .entry)) ⌝ }
+{
+    if p.at_most < seen {
+        return Order::Greater;
+    }
+    if below {
+        return Order::Less;
+    }
+    key::cmp(first, end)
 }
 
 // `partition_point`.

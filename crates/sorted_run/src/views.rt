@@ -1,11 +1,11 @@
 // The views of a run, each read where it stands.
 use comparable_range::Kind;
-use sst_view::views::end_before;
-use sst_view::views::intersects;
 use format::BoundSpan;
 use format::span::RangeSpan;
 use manifest::effective;
 use records::RunSpan;
+use sst_view::views::end_before;
+use sst_view::views::intersects;
 ghost use mathlib.Core.Path.{_≡_};
 ghost use Prim.Native.Nat.{_<_};
 ghost use lib.Dec.{T};
