@@ -1,6 +1,6 @@
 /*
- * Bilqarush: ranges of byte keys, images of runs, lookups in them and in indexes, and the commit of a compaction, after
- * slatedb 0.18.0.
+ * Bilqarush: ranges of byte keys, images of runs, lookups in them and in indexes, visible sizes, and the commit of a
+ * compaction, after slatedb 0.18.0.
  *
  * Link libbilqarush_c.a, which `rt staticlib bilqarush_c` writes to target/staticlib, for x86-64 Linux. Of the C library it
  * needs memcpy and memset alone. What each call answers is proved for every input; docs/PROMISES.md names the definitions.
@@ -38,8 +38,8 @@
  *
  * A slice of bytes is a pointer and then a length. Pointers are never NULL, even where the length is 0: a pointer to any
  * byte will do there. Slices that are only read may overlap each other. What is written (`out` and the slots `order`, `is`,
- * `written`, `count`, `found`, `partition`, `start` and `end`: all that is not const) overlaps nothing else that the call is
- * given, and has a value before the call.
+ * `written`, `count`, `found`, `partition`, `start`, `end`, `part`, `fraction` and `size`: all that is not const) overlaps
+ * nothing else that the call is given, and has a value before the call.
  *
  * After a stop every byte and every slot is as it was. After 0 a call that has `out` has written the first *written bytes
  * of it; the bytes past them are as they were. What is read is never written. No call allocates, keeps a pointer or keeps
@@ -346,6 +346,41 @@ uint8_t bilqarush_calculate_view_range(const uint8_t *image, size_t image_len, s
 uint8_t bilqarush_intersects_range(const uint8_t *image, size_t image_len, size_t run, size_t view, uint8_t end_kind,
                                    const uint8_t *end, size_t end_len, const uint8_t *range, size_t range_len,
                                    bool *is);
+
+/* ---- Visible size ---- */
+
+/*
+ * In these calls too `run` is the run's place in the image and `view` the view's place in its run, both from 0. Each takes
+ * any number there; a place that is not in the image is stop 9.
+ */
+
+/*
+ * How much of its table a view shows. *part is false if it is whole, and *fraction is left as it was: where the table has no
+ * last key, where the view's effective range is the table's own range, and where the effective range has the length 0. Else
+ * *part is true and *fraction is the length of the effective range divided by that of the own range, or by 2^-52 if that is
+ * greater; it is 1e-6 at least and 1 at most.
+ * The length of a range is the number of its end's key minus that of its start's. Of a key the bytes after the common prefix
+ * of the table's first and last key count, eight at most: the first as 256ths, the next as 256ths of these, and so on. Each
+ * step is one of binary64, `double` here, in slatedb's order, and the bits of *fraction are the Rust's.
+ * Stops: as bilqarush_check_image; 9.
+ */
+uint8_t bilqarush_visible_fraction(const uint8_t *image, size_t image_len, size_t run, size_t view, bool *part,
+                                   double *fraction);
+
+/*
+ * The visible size of a view, in bytes. *size is the raw size of its table, index_offset + index_len, if it has no visible
+ * range; else the raw size times the fraction of bilqarush_visible_fraction (1 if it is whole), rounded to the nearest whole
+ * number, a half up, and 1 at least.
+ * Stops: as bilqarush_check_image; 9.
+ */
+uint8_t bilqarush_estimate_visible_size(const uint8_t *image, size_t image_len, size_t run, size_t view,
+                                        uint64_t *size);
+
+/*
+ * The visible size of a run: *size is the sum over its views, 0 if it has none.
+ * Stops: as bilqarush_check_image; 9.
+ */
+uint8_t bilqarush_estimate_run_visible_size(const uint8_t *image, size_t image_len, size_t run, uint64_t *size);
 
 #ifdef __cplusplus
 }

@@ -229,6 +229,32 @@ static void ranges_of_views(void) {
     CHECK(stopped(bilqarush_calculate_view_range(BYTES(EXAMPLE), 0, 0, BYTES(PADDED), out, ROOM, &written), 2));
 }
 
+/* Run 7 with one view, of a table from 00 to 80 with a raw size of 5: from 00 up to, without, 40 is visible; all is. */
+#define FROM_00_TO_80                                                                                              \
+    "\x01\0\0\0\x07\0\x10" ID("\x01") ID("\x01") "\0\0\0\0\0\0\0\x03\0\0\0\0\0\0\0\x02\0\0\0\0\0\0\0\0"               \
+    "\x80\0\x01\0\0\x01\x80"
+#define HALF_SHOWN FROM_00_TO_80 "\x80\x60\0\x01\0\0\x01\x40"
+#define ALL_SHOWN FROM_00_TO_80 "\0"
+
+static void fractions(void) {
+    bool part = true;
+    double fraction = 77;
+    CHECK(bilqarush_visible_fraction(BYTES(""), 0, 0, &part, &fraction) == 1 && part && fraction == 77);
+    CHECK(bilqarush_visible_fraction(BYTES(ALL_SHOWN), 0, 0, &part, &fraction) == 0 && !part && fraction == 77);
+    CHECK(bilqarush_visible_fraction(BYTES(HALF_SHOWN), 0, 1, &part, &fraction) == 9 && !part && fraction == 77);
+    CHECK(bilqarush_visible_fraction(BYTES(HALF_SHOWN), 0, 0, &part, &fraction) == 0 && part && fraction == 0.5);
+}
+
+static void visible_sizes(void) {
+    uint64_t size = 77;
+    CHECK(bilqarush_estimate_visible_size(BYTES(""), 0, 0, &size) == 1 && size == 77);
+    CHECK(bilqarush_estimate_visible_size(BYTES(HALF_SHOWN), 1, 0, &size) == 9 && size == 77);
+    CHECK(bilqarush_estimate_run_visible_size(BYTES(HALF_SHOWN), 1, &size) == 9 && size == 77);
+    CHECK(bilqarush_estimate_visible_size(BYTES(HALF_SHOWN), 0, 0, &size) == 0 && size == 3);
+    CHECK(bilqarush_estimate_visible_size(BYTES(ALL_SHOWN), 0, 0, &size) == 0 && size == 5);
+    CHECK(bilqarush_estimate_run_visible_size(BYTES(HALF_SHOWN), 0, &size) == 0 && size == 3);
+}
+
 int main(void) {
     keys_and_bounds();
     tests_of_ranges();
@@ -243,6 +269,8 @@ int main(void) {
     coverings();
     tests_of_views();
     ranges_of_views();
+    fractions();
+    visible_sizes();
     if (failures == 0) {
         printf("bindings/c/calls: each call answered as expected\n");
     }

@@ -1,5 +1,5 @@
-//! Bilqarush: ranges of byte keys, images of runs, lookups in them and in indexes, and the commit of a compaction, after
-//! slatedb 0.18.0.
+//! Bilqarush: ranges of byte keys, images of runs, lookups in them and in indexes, visible sizes, and the commit of a
+//! compaction, after slatedb 0.18.0.
 //!
 //! A safe function for each call of `libbilqarush_c.a`, which is written in Rattle and proved: what each answers, for
 //! every input, is stated in `docs/PROMISES.md` of the repository. A call takes any bytes. It answers, or refuses with a
@@ -39,6 +39,7 @@ mod images;
 mod lookups;
 mod ranges;
 pub mod raw;
+mod sizes;
 mod stop;
 
 pub use images::{check_image, commit, compacted_effective_range, list};
@@ -51,6 +52,9 @@ pub use ranges::{
     as_point, cmp_bound, compare, contains, from_prefix, from_prefix_and_subrange, intersect,
     intersect_end_key, intersect_start_key, non_empty, range_image, union, Bounds, Joined, Range,
     Side,
+};
+pub use sizes::{
+    estimate_run_visible_size, estimate_visible_size, visible_fraction, VisibleFraction,
 };
 pub use stop::Stop;
 

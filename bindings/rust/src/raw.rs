@@ -1,8 +1,8 @@
 //! The C interface, exactly as `include/bilqarush.h` has it; what each call reads, writes and answers is said there.
 //!
 //! Pointers are never null, even where the length is 0. What is written (`out` and the slots `order`, `is`, `written`,
-//! `count`, `found`, `partition`, `start` and `end`: all that is `*mut`) overlaps nothing else that the call is given, and
-//! slots are initialised.
+//! `count`, `found`, `partition`, `start`, `end`, `part`, `fraction` and `size`: all that is `*mut`) overlaps nothing else
+//! that the call is given, and slots are initialised.
 
 /// The ceiling of a key, in bytes.
 pub const BILQARUSH_MAX_KEY: usize = 1024;
@@ -297,5 +297,32 @@ unsafe extern "C" {
         range: *const u8,
         range_len: usize,
         is: *mut bool,
+    ) -> u8;
+
+    /// How much of its table a view shows.
+    pub fn bilqarush_visible_fraction(
+        image: *const u8,
+        image_len: usize,
+        run: usize,
+        view: usize,
+        part: *mut bool,
+        fraction: *mut f64,
+    ) -> u8;
+
+    /// The visible size of a view.
+    pub fn bilqarush_estimate_visible_size(
+        image: *const u8,
+        image_len: usize,
+        run: usize,
+        view: usize,
+        size: *mut u64,
+    ) -> u8;
+
+    /// The visible size of a run.
+    pub fn bilqarush_estimate_run_visible_size(
+        image: *const u8,
+        image_len: usize,
+        run: usize,
+        size: *mut u64,
     ) -> u8;
 }

@@ -33,6 +33,8 @@ fn in_rust(parameter: &str) -> String {
         "uint8_t" => "u8",
         "int8_t" => "i8",
         "size_t" => "usize",
+        "uint64_t" => "u64",
+        "double" => "f64",
         "bool" => "bool",
         other => panic!("a parameter of type {other}"),
     };
@@ -56,9 +58,9 @@ fn the_same_functions() {
         (name.to_string(), parameters.to_string())
     });
     let in_header: Vec<_> = in_header.collect();
-    assert_eq!(in_header.len(), 25);
+    assert_eq!(in_header.len(), 28);
     assert_eq!(in_header, in_raw.collect::<Vec<_>>());
-    assert_eq!(raw.matches(") -> u8;").count(), 25);
+    assert_eq!(raw.matches(") -> u8;").count(), 28);
 }
 
 #[test]

@@ -2,7 +2,10 @@
 mod common;
 
 use bilqarush::raw::*;
-use common::{example, excluded, included, index, range, UNWRITTEN};
+use common::{
+    cut_view, example, excluded, image, included, index, range, run, sized_table, whole_view,
+    UNWRITTEN,
+};
 use std::ops::Bound::Unbounded;
 
 const SLOT: usize = 77;
@@ -354,4 +357,52 @@ fn ranges_of_views_byte_by_byte() {
         assert_eq!(on_view(call, 0, &apart, 0), (16, vec![]));
         assert_eq!(on_view(call, 2, &asked, 0), (9, vec![]));
     }
+}
+
+/// A table with keys from 00 to 40 and a raw size of 5: all is visible, and half of it.
+fn all_and_half() -> [Vec<u8>; 2] {
+    let table = || sized_table(1, "\0", Some("@"), [3, 2]);
+    let half = range(Unbounded, excluded(" "));
+    [whole_view(1, table()), cut_view(1, table(), half)].map(|view| image(&[run(7, &[view])]))
+}
+
+/// What the call returned, and the slots.
+fn visible_fraction(image: &[u8], view: usize, before: bool) -> (u8, bool, f64) {
+    let (mut part, mut fraction) = (before, 77.0);
+    let stop = unsafe {
+        let (at, length) = (image.as_ptr(), image.len());
+        bilqarush_visible_fraction(at, length, 0, view, &mut part, &mut fraction)
+    };
+    (stop, part, fraction)
+}
+
+#[test]
+fn what_is_whole_leaves_the_slot_of_the_fraction() {
+    let [all, half] = all_and_half();
+    for before in [false, true] {
+        assert_eq!(visible_fraction(&half, 0, before), (0, true, 0.5));
+        assert_eq!(visible_fraction(&all, 0, before), (0, false, 77.0));
+        assert_eq!(visible_fraction(&half, 1, before), (9, before, 77.0));
+        assert_eq!(visible_fraction(b"", 0, before), (1, before, 77.0));
+    }
+}
+
+#[test]
+fn slots_of_sizes_stay_after_a_stop() {
+    let [all, half] = all_and_half();
+    let sizes = |image: &[u8], place: usize| {
+        let (at, length) = (image.as_ptr(), image.len());
+        let (mut of_view, mut of_run) = (77, 77);
+        let stops = unsafe {
+            [
+                bilqarush_estimate_visible_size(at, length, place, 0, &mut of_view),
+                bilqarush_estimate_run_visible_size(at, length, place, &mut of_run),
+            ]
+        };
+        (stops, [of_view, of_run])
+    };
+    assert_eq!(sizes(&all, 0), ([0; 2], [5; 2]));
+    assert_eq!(sizes(&half, 0), ([0; 2], [3; 2]));
+    assert_eq!(sizes(&half, 1), ([9; 2], [77; 2]));
+    assert_eq!(sizes(b"", 0), ([1; 2], [77; 2]));
 }

@@ -44,7 +44,7 @@ fn a_stop_is_an_error() {
 }
 
 #[test]
-fn no_bytes_are_stop_1_of_each_lookup() {
+fn no_bytes_are_stop_1_of_each_lookup_and_size() {
     let nothing = b"";
     let stops = [
         partition_point(nothing, Test::Below, b"a").unwrap_err(),
@@ -57,6 +57,9 @@ fn no_bytes_are_stop_1_of_each_lookup() {
         compacted_intersection(nothing, 0, 0, nothing).unwrap_err(),
         calculate_view_range(nothing, 0, 0, nothing).unwrap_err(),
         intersects_range(nothing, 0, 0, Unbounded, nothing).unwrap_err(),
+        visible_fraction(nothing, 0, 0).unwrap_err(),
+        estimate_visible_size(nothing, 0, 0).unwrap_err(),
+        estimate_run_visible_size(nothing, 0).unwrap_err(),
     ];
     assert!(stops.iter().all(|stop| stop.to_string() == WORDS[0]));
 }

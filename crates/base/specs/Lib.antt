@@ -3,3 +3,4 @@ pub mod Bytes
 pub mod Table
 pub mod Outcome
 pub mod Splice
+pub mod Lists

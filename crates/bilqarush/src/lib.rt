@@ -4,6 +4,7 @@
 mod commits;
 mod images;
 mod lookups;
+mod sizes;
 
 pub use base::Tested;
 use base::Written;
@@ -35,6 +36,12 @@ pub use lookups::overlaps_range;
 pub use lookups::partition_point;
 pub use lookups::partitions_covering_range;
 pub use lookups::table_idx_covering_range;
+pub use sizes::Estimated;
+pub use sizes::Shown;
+pub use sizes::VisibleFraction;
+pub use sizes::estimate_run_visible_size;
+pub use sizes::estimate_visible_size;
+pub use sizes::visible_fraction;
 ghost use mathlib.Core.Path.{_≡_};
 ghost use lib.ListN.{length};
 ghost use Rattle.base.specs.Outcome.{reported, lent, testOf};

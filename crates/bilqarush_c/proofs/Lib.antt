@@ -1,2 +1,3 @@
 pub mod TellExits
 pub mod LookupExits
+pub mod SizeExits

@@ -2,6 +2,7 @@
 mod images;
 mod lookups;
 mod partitions;
+mod sizes;
 
 ghost use mathlib.Core.Path.{_≡_};
 ghost use lib.ListN.{length};

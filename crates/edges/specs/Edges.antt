@@ -14,8 +14,10 @@ use Rattle.comparable_range.specs.Laws.{keyless}
 use Rattle.format.specs.Range.{writeRange}
 use Rattle.records.specs.Values.{Part}
 use Rattle.records.specs.Layouts.{index}
+use Rattle.records.specs.Layouts as records
 use Rattle.partitioned_keyspace.specs.Partitions.{Places}
 use Rattle.partitioned_keyspace.specs.Calls.{partitionsCoveringRangeOutcome}
+use Rattle.view_sizes.specs.SizeCalls.{estimateVisibleSizeOutcome}
 use Rattle.incremental_progress.specs.Intervals.{Interval, subtractFrom}
 use Rattle.incremental_progress.specs.Parts.{durable}
 use Rattle.bilqarush.specs.Calls.{cmpBoundOutcome, nonEmptyOutcome, containsOutcome, fromPrefixOutcome}
@@ -29,6 +31,7 @@ pub data Answer : Type 0 where
   ranges : List Range → Answer
   interval : Option Interval → Answer
   places : ℕ → ℕ → Answer
+  size : ℕ → Answer
 
 abbrev test : Outcome Bool → Answer
 test (outcome.stop n) = stop n
@@ -45,6 +48,10 @@ writing (outcome.answer l) = bytes l
 abbrev covering : Outcome Places → Answer
 covering (outcome.stop n) = stop n
 covering (outcome.answer p) = places (p .start) (p .end)
+
+abbrev sizing : Outcome ℕ → Answer
+sizing (outcome.stop n) = stop n
+sizing (outcome.answer n) = size n
 
 pub record Edge : Type 0 where
   pub answered : Answer
@@ -76,6 +83,9 @@ f = 102 ∷ []
 abbrev z : Key
 z = 122 ∷ []
 
+abbrev ulid : List ℕ
+ulid = 0 ∷ 0 ∷ 0 ∷ 0 ∷ 0 ∷ 0 ∷ 0 ∷ 0 ∷ 0 ∷ 0 ∷ 0 ∷ 0 ∷ 0 ∷ 0 ∷ 0 ∷ 1 ∷ []
+
 abbrev fromCtoF : Interval
 fromCtoF = record { start = some c; end = some f }
 
@@ -99,6 +109,18 @@ image s e = writeRange (range s e)
 abbrev indexOf : List Key → List ℕ
 indexOf ks = index .write (map (λ k. record { offset = 0; first = k }) ks)
 
+-- an image of one run with one view, of a table from one key to another, with a raw size
+abbrev viewImage : Key → Key → ℕ → Range → List ℕ
+viewImage first last raw visible =
+    records.image .write (record {
+      id = 7;
+      views = record {
+        id = record { 0 = ulid };
+        table = record { id = record { 0 = ulid }; index-offset = raw; index-len = 0; filter-offset = 0; first = first; last = some last };
+        visible = some visible;
+      } ∷ [];
+    } ∷ [])
+
 -- ---- the rows
 unfoldable pub edges : List Edge
 edges =
@@ -119,6 +141,8 @@ edges =
     ∷ (covering (partitionsCoveringRangeOutcome (indexOf (a ∷ b ∷ b ∷ d ∷ [])) (image unbounded (excluded b))) ∶ places 0 2)
     -- first key b: point a gives 0..0
     ∷ (covering (partitionsCoveringRangeOutcome (indexOf (b ∷ [])) (image (included a) (included a))) ∶ places 0 0)
+    -- table keys 00 to 80 (hexadecimal), visible [00,40), raw size 5: 3
+    ∷ (sizing (estimateVisibleSizeOutcome (viewImage (0x00 ∷ []) (0x80 ∷ []) 5 (range (included (0x00 ∷ [])) (excluded (0x40 ∷ [])))) 0 0) ∶ size 3)
     -- [a,z] less [c,f): [a,c), [f,z]; [c,f] less it: [f,f]
     ∷ (ranges (subtractFrom fromCtoF (range (included a) (included z))) ∶ ranges (range (included a) (excluded c) ∷ range (included f) (included z) ∷ []))
     ∷ (ranges (subtractFrom fromCtoF (range (included c) (included f))) ∶ ranges (range (included f) (included f) ∷ []))

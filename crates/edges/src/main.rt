@@ -3,6 +3,7 @@
 use base::Written;
 use bilqarush::Compared;
 use bilqarush::Covered;
+use bilqarush::Estimated;
 use bilqarush::Tested;
 
 fn print_stop(n: u8) {
@@ -151,6 +152,28 @@ fn partitions() {
     );
 }
 
+fn print_size(name: &[u8], e: Estimated) {
+    io::write_all(1, name);
+    match e {
+        Estimated::Stop(n) => print_stop(n),
+        Estimated::Bytes(n) => {
+            io::write_all(1, b": ");
+            io::print_decimal(1, n);
+            io::write_all(1, b"\n");
+        }
+    }
+}
+
+// Run 7 with one view, of a table with index_offset 5.
+fn sizes() {
+    let image =
+        b"\x01\x00\x00\x00\x07\x00\x10\x00\x00\x00\x00\x00\x00\x00\x00\x00\x00\x00\x00\x00\x00\x00\x01\x00\x00\x00\x00\x00\x00\x00\x00\x00\x00\x00\x00\x00\x00\x00\x01\x00\x00\x00\x00\x00\x00\x00\x05\x00\x00\x00\x00\x00\x00\x00\x00\x00\x00\x00\x00\x00\x00\x00\x00\x80\x00\x01\x00\x00\x01\x80\x80\x60\x00\x01\x00\x00\x01\x40";
+    print_size(
+        b"keys 00 to 80, visible [00,40), raw size 5",
+        bilqarush::estimate_visible_size(image, 0, 0),
+    );
+}
+
 // Keys at the ceiling, and past it.
 fn keys() {
     let longest = [97u8; 1024];
@@ -196,6 +219,7 @@ fn main() {
     bounds();
     prefixes();
     partitions();
+    sizes();
     keys();
     buffers();
 }

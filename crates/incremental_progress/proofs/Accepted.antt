@@ -28,10 +28,10 @@ use Rattle.incremental_progress.specs.Checks.{destinationIsSource, retai
 use Rattle.incremental_progress.specs.Draws.{Ten, draw, fill, fillCommit, supply}
 use Rattle.incremental_progress.specs.Entries.{Entry, whole, cut, pieceEntry, viewEntries, outputEntries, partEntries}
 use Rattle.incremental_progress.specs.NewImages.{AcceptedImagePassesAgain}
-use Rattle.incremental_progress.proofs.Lists.{All, All-map, All-of, All-both, All-append, All-flatMap, All-mapped}
+use Rattle.base.specs.Lists.{All, All-map, All-of, All-both, All-append, All-flatMap, All-mapped}
 use Rattle.incremental_progress.proofs.Checks.{all-each}
 use Rattle.incremental_progress.proofs.Drawing.{IsTen, Of, next-of, draw-ten, got-of, supply-tens, Ready, Kept, fillCommit-keeps}
-use Rattle.incremental_progress.proofs.Ceilings.{ImageWithin}
+use Rattle.records.proofs.Within.{ImageWithin}
 use Rattle.incremental_progress.proofs.NewImages.{true-all, new-within, new-small, Stored, stored, read-again, job-within}
 use Rattle.incremental_progress.proofs.Outcomes.{Made, Accepted, accepted-commit}
 

@@ -20,7 +20,7 @@ use Rattle.incremental_progress.specs.Parts.{plannedInterval, durable, i
 use Rattle.incremental_progress.specs.Checks.{plannedFrom, plannedInOrder, outputsInside, outputsInOrder}
 use Rattle.incremental_progress.specs.Entries.{viewEntries, runEntries}
 use Rattle.incremental_progress.specs.Gaps.{void, gapTo, lastGap, gapFrom, gapsFrom, gaps, pieces, gapEntries}
-use Rattle.incremental_progress.proofs.Lists.{All-map, flatMap-append, flatMap-alike, map-append}
+use Rattle.base.specs.Lists.{All-map, flatMap-append, flatMap-alike, map-append}
 use Rattle.incremental_progress.proofs.Span.{Span, keep, until, since, less, keep-none, keep-some, less-keep, keep-crossed, later-later, sooner-sooner′}
 use Rattle.incremental_progress.proofs.Cutting.{Proper, cutSpans}
 use Rattle.incremental_progress.proofs.Subtraction.{cuts, cuts-injective, spanOf, intersect-cuts, cut-out-cuts}

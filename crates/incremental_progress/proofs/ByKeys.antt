@@ -17,7 +17,7 @@ use Rattle.manifest.proofs.ViewRanges.{own-holds-first}
 use Rattle.incremental_progress.specs.Checks.{endsBy, lastCut, outputsFrom, outputsInside, outputsInOrder, outputViewsCovered}
 use Rattle.incremental_progress.specs.Members.{In, here, further}
 use Rattle.incremental_progress.specs.ByKeys.{LiesInPlan, InTurn, none-listed, one-listed, next-listed, OutputsLie, CheckElevenByKeys, ReplacedViewsLeaveNothing}
-use Rattle.incremental_progress.proofs.Lists.{All}
+use Rattle.base.specs.Lists.{All}
 use Rattle.incremental_progress.proofs.Job.{Ascending, no-more, output, Fits, fits-all, fits-holds}
 use Rattle.incremental_progress.proofs.Checks.{all-each, ascending, implied}
 use Rattle.incremental_progress.proofs.NewImages.{true-all}

@@ -21,7 +21,7 @@ use Rattle.incremental_progress.specs.Views.{start}
 use Rattle.incremental_progress.specs.Parts.{keyOf, plannedInterval, intervals}
 use Rattle.incremental_progress.specs.Checks.{isIncluded, plannedFrom, plannedInOrder, endsBy, lastCut, outputsFrom, outputsInside, outputsInOrder, nothingLeft, covered, outputViewsCovered}
 use Rattle.incremental_progress.specs.Laws.{JobPasses}
-use Rattle.incremental_progress.proofs.Lists.{All, All-map, All-both}
+use Rattle.base.specs.Lists.{All, All-map, All-both}
 use Rattle.incremental_progress.proofs.Sort.{Sorted}
 use Rattle.incremental_progress.proofs.Span.{both-true}
 use Rattle.incremental_progress.proofs.Subtraction.{Sound, All-spans, times-cut-out}

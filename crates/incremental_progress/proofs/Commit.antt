@@ -19,7 +19,7 @@ use Rattle.incremental_progress.specs.Views.{start, shown}
 use Rattle.incremental_progress.proofs.Marked.{cutRun, cutDestination, published, markedViews, markedRuns}
 use Rattle.incremental_progress.specs.Parts.{intervals, listedIn}
 use Rattle.incremental_progress.specs.Jobs.{isOutput, others, LaterJob, expected}
-use Rattle.incremental_progress.proofs.Lists.{All, All-map, All-both, All-unmapped, map-alike}
+use Rattle.base.specs.Lists.{All, All-map, All-both, All-unmapped, map-alike}
 use Rattle.incremental_progress.proofs.Sort.{Sorted}
 use Rattle.incremental_progress.proofs.Cutting.{Proper, Grown, later-proper, grown-within}
 use Rattle.incremental_progress.proofs.Subtraction.{spanOf, any-cuts, Sound}

@@ -27,7 +27,7 @@ use Rattle.incremental_progress.specs.Commit.{commitOutcome}
 use Rattle.incremental_progress.specs.Patterns.{imagePattern, Fits}
 use Rattle.incremental_progress.specs.Demand.{Step, OfBytes, no-step, one-step, commitStep, handedOn, after, recorded, accepted, lastOf, none-yet, otherBytes, Stands, Demand-3}
 use Rattle.incremental_progress.specs.Corollaries.{runOf, viewsOf, bytesOf, RunsGoByTheirId, CommitList, ReadAs, NoRunComesOrGoes, LastWrittenKeyStays, OutsideStays, InsideIsTheDestinations, OtherRunsKeepTheirBytes, AsIfAlone, AnyWayThere, NoneAcceptedNothingChanges}
-use Rattle.incremental_progress.proofs.Ceilings.{ImageWithin}
+use Rattle.records.proofs.Within.{ImageWithin}
 use Rattle.incremental_progress.proofs.Drawing.{supply-tens}
 use Rattle.incremental_progress.proofs.DemandLaws.{expected-counts, other-bytes-count}
 use Rattle.incremental_progress.proofs.NewImages.{new-ids, new-within, new-small, Stored, stored, read-again, job-within}

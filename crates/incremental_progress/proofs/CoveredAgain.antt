@@ -14,7 +14,7 @@ use Rattle.incremental_progress.proofs.Marked.{piece, retained, cutRun,
 use Rattle.incremental_progress.specs.Parts.{intervals}
 use Rattle.incremental_progress.specs.Jobs.{isOutput, others}
 use Rattle.incremental_progress.specs.Checks.{covered, outputViewsCovered}
-use Rattle.incremental_progress.proofs.Lists.{All, All-map, All-of, All-both, All-append, All-flatMap, All-mapped}
+use Rattle.base.specs.Lists.{All, All-map, All-of, All-both, All-append, All-flatMap, All-mapped}
 use Rattle.incremental_progress.proofs.Sort.{All-sort}
 use Rattle.incremental_progress.proofs.Views.{piece-table}
 use Rattle.incremental_progress.proofs.Publish.{good-job}

@@ -8,7 +8,7 @@ use Rattle.base.specs.Pick.{pick}
 use Rattle.key.specs.Order.{Key}
 use Rattle.comparable_range.specs.Cut.{Cut, _≼_}
 use Rattle.comparable_range.proofs.Cut.{≼-trans}
-use Rattle.incremental_progress.proofs.Lists.{All, All-map, flatMap-flatMap}
+use Rattle.base.specs.Lists.{All, All-map, flatMap-flatMap}
 use Rattle.incremental_progress.proofs.Span.{Span, less, within, times, times-append, times-less, absorb, commute, within-parts, within-yes}
 
 -- a span whose end is not before its start

@@ -26,7 +26,7 @@ use Rattle.incremental_progress.specs.Checks.{isIncluded}
 use Rattle.incremental_progress.specs.Patterns.{Pattern, Fits, ended, same, any, AlikeBut, both-ended, equal, free}
 use Rattle.incremental_progress.specs.Demand.{LaterRecord, none-yet, only, and-then}
 use Rattle.incremental_progress.specs.DemandLaws.{ViewsAddUp, ListingsAddUp, DurableKeys, ExpectedCounts, OtherBytesCount, partAt, HasPart, further, LaterRecords, RecordByRecord, FittingBytes, AlikeBytes}
-use Rattle.incremental_progress.proofs.Lists.{flatMap-append}
+use Rattle.base.specs.Lists.{flatMap-append}
 use Rattle.incremental_progress.proofs.Span.{none-within}
 use Rattle.incremental_progress.proofs.Subtraction.{holds-within}
 use Rattle.incremental_progress.proofs.Views.{shown-append}

@@ -16,7 +16,7 @@ use Rattle.incremental_progress.specs.Intervals.{Interval, cutOut, anyHo
 use Rattle.incremental_progress.specs.Sort.{insert, sort}
 use Rattle.incremental_progress.specs.Views.{start, shown}
 use Rattle.incremental_progress.proofs.Marked.{piece, retained, cutRun, cutDestination}
-use Rattle.incremental_progress.proofs.Lists.{All, All-map, All-of, All-mapped, All-unmapped, All-both, All-flatMap, All-forall, Pairwise, Pairwise-append, Pairwise-all, Pairwise-map, flatMap-append, flatMap-none}
+use Rattle.base.specs.Lists.{All, All-map, All-of, All-mapped, All-unmapped, All-both, All-flatMap, All-forall, Pairwise, Pairwise-append, Pairwise-all, Pairwise-map, flatMap-append, flatMap-none}
 use Rattle.incremental_progress.proofs.Sort.{at, eq-cut, eq-cut-before, eq-cut-after, Sorted, at-none, Untied, sort-between, insert-first, insert-next}
 use Rattle.incremental_progress.proofs.Cutting.{Grown}
 use Rattle.incremental_progress.proofs.Subtraction.{cuts, spanOf, cut-out-cuts, Sound, All-spans}

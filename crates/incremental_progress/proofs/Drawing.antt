@@ -20,7 +20,7 @@ use Rattle.incremental_progress.specs.Jobs.{isOutput, others}
 use Rattle.incremental_progress.specs.Ids.{randomLength}
 use Rattle.incremental_progress.specs.Draws.{Ten, tens, supply, Drawn, used-up, got, next, isOld, draw, fill, fillAll, fillViews, fillRuns, fillCommit}
 use Rattle.incremental_progress.specs.Entries.{Entry, viewEntries, runEntries, partEntries}
-use Rattle.incremental_progress.proofs.Lists.{All, All-append, All-flatMap}
+use Rattle.base.specs.Lists.{All, All-append, All-flatMap}
 use Rattle.incremental_progress.proofs.Sort.{All-sort}
 use Rattle.incremental_progress.proofs.NewRuns.{fill-by-kind}
 

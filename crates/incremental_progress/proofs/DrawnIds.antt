@@ -12,7 +12,7 @@ use Rattle.records.specs.declared.ids.ViewId.{ViewId}
 use Rattle.incremental_progress.specs.Draws.{Ten, got, newId, isOld, draw}
 use Rattle.incremental_progress.specs.Members.{In, here, further}
 use Rattle.incremental_progress.specs.DrawnIds.{DrawnFor, DrawnIdIsNew}
-use Rattle.incremental_progress.proofs.Lists.{take-front}
+use Rattle.base.specs.Lists.{take-front}
 
 -- ten bytes make the old id exactly if the test says so
 pub old-is : (id : ViewId) (ten : Ten) → isOld id ten ≡ true → newId id ten ≡ id

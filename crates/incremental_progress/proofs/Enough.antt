@@ -15,7 +15,7 @@ use Rattle.incremental_progress.specs.Views.{start}
 use Rattle.incremental_progress.specs.Jobs.{leftEntries, withOutputs}
 use Rattle.incremental_progress.specs.Draws.{Ten, tens, supply, Drawn, got, next, isOld, draw, drawnView, fill, fillAll, fillViews, fillRuns, fillCommit}
 use Rattle.incremental_progress.specs.Entries.{Entry, whole, cut, partEntries}
-use Rattle.incremental_progress.proofs.Lists.{All, All-append}
+use Rattle.base.specs.Lists.{All, All-append}
 use Rattle.incremental_progress.proofs.Drawing.{IsTen}
 use Rattle.incremental_progress.proofs.DrawnIds.{old-is}
 

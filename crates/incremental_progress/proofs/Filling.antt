@@ -25,7 +25,7 @@ use Rattle.incremental_progress.specs.Jobs.{isOutput, others, leftEntrie
 use Rattle.incremental_progress.specs.Draws.{Ten, Drawn, used-up, got, next, newId, draw, drawnView, fill, fillAll, fillViews, fillRuns, fillCommit}
 use Rattle.incremental_progress.specs.Ids.{timeLength, timeOf}
 use Rattle.incremental_progress.specs.Entries.{Entry, whole, cut, entryStart, pieceEntry, viewEntries, runEntries, outputEntries, partEntries}
-use Rattle.incremental_progress.proofs.Lists.{All, All-of, All-append, All-mapped, map-append, map-flatMap, take-front}
+use Rattle.base.specs.Lists.{All, All-of, All-append, All-mapped, map-append, map-flatMap, take-front}
 use Rattle.incremental_progress.proofs.Sort.{All-sort}
 use Rattle.incremental_progress.proofs.NewRuns.{fill-by-kind}
 use Rattle.incremental_progress.proofs.Ids.{Each-append, fills-sort, fills-self}

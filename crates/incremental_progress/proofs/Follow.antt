@@ -18,12 +18,12 @@ use Rattle.incremental_progress.specs.Draws.{supply}
 use Rattle.incremental_progress.specs.Commit.{commitOutcome}
 use Rattle.incremental_progress.proofs.Marked.{markedRuns, FillsImage, FullTables, no-tables, one-table, FullParts, no-parts, one-part}
 use Rattle.incremental_progress.specs.Demand.{lastOf, after, Step, OfBytes, no-step, one-step, commitStep, handedOn, recorded, accepted, LaterRecord, EachLater, and-then}
-use Rattle.incremental_progress.proofs.Lists.{All}
+use Rattle.base.specs.Lists.{All}
 use Rattle.incremental_progress.proofs.Commit.{Commits, no-commit, first-accepted, later-accepted, standing, same-runs}
 use Rattle.incremental_progress.proofs.Checks.{Checked, passes}
 use Rattle.incremental_progress.proofs.Ids.{image-trans, image-ids, fills-commit, fills-checked}
 use Rattle.incremental_progress.proofs.Filling.{commit-fills}
-use Rattle.incremental_progress.proofs.Ceilings.{table-keys, ImageWithin, PartWithin}
+use Rattle.records.proofs.Within.{table-keys, ImageWithin, PartWithin}
 use Rattle.incremental_progress.proofs.NewImages.{closed, Stored, read-again, job-within}
 use Rattle.incremental_progress.proofs.Outcomes.{same-answer, job-passes, AllPass, Passes, accepted-commit}
 use Rattle.incremental_progress.proofs.Accepted.{accepted-stored}

@@ -18,7 +18,7 @@ use Rattle.incremental_progress.specs.Checks.{covered, outputViewsCovere
 use Rattle.incremental_progress.specs.Draws.{Ten, Drawn, used-up, got, next, fillAll, fillViews, fillRuns, fillCommit}
 use Rattle.incremental_progress.specs.Entries.{runEntries}
 use Rattle.incremental_progress.specs.Gaps.{gaps, gapEntries, byGap, runGaps, placed, fillParts, gapViews, gapRuns, gapCommit}
-use Rattle.incremental_progress.proofs.Lists.{All, All-both}
+use Rattle.base.specs.Lists.{All, All-both}
 use Rattle.incremental_progress.proofs.Job.{Planned}
 use Rattle.incremental_progress.proofs.Checks.{all-each, job-parts, Checked}
 use Rattle.incremental_progress.proofs.ByGaps.{run-entries-by-gaps}

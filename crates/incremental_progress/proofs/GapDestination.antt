@@ -23,7 +23,7 @@ use Rattle.incremental_progress.specs.Checks.{nothingLeft, covered}
 use Rattle.incremental_progress.specs.Draws.{Ten, Drawn, used-up, got, next, fillAll}
 use Rattle.incremental_progress.specs.Entries.{whole, cut, pieceEntry, viewEntries, runEntries}
 use Rattle.incremental_progress.specs.Gaps.{gaps, pieces, runGaps, placed, byGap, fillParts}
-use Rattle.incremental_progress.proofs.Lists.{All, All-map, map-alike, map-flatMap, flatMap-alike}
+use Rattle.base.specs.Lists.{All, All-map, map-alike, map-flatMap, flatMap-alike}
 use Rattle.incremental_progress.proofs.Sort.{Sorted}
 use Rattle.incremental_progress.proofs.Subtraction.{cuts}
 use Rattle.incremental_progress.proofs.Pieces.{Inside}

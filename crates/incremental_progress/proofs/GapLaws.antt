@@ -12,7 +12,7 @@ use Rattle.comparable_range.specs.Cut.{Cut, _≼_, _≺_}
 use Rattle.incremental_progress.specs.Sort.{sort}
 use Rattle.incremental_progress.specs.Gaps.{Placed, inGap, byGap}
 use Rattle.comparable_range.proofs.Cut.{≼-trans, ≺-≼, ≺-≼-trans, order}
-use Rattle.incremental_progress.proofs.Lists.{All, All-map, All-append, All-mapped, Pairwise, Pairwise-append}
+use Rattle.base.specs.Lists.{All, All-map, All-append, All-mapped, Pairwise, Pairwise-append}
 use Rattle.incremental_progress.proofs.Sort.{eq-cut, eq-cut-before, eq-cut-after, at, at-none, at-append, Sorted, sort-sorted, sort-stable, sort-unique}
 
 -- ---- gaps between intervals that ascend

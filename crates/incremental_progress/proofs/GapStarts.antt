@@ -21,7 +21,7 @@ use Rattle.incremental_progress.specs.Views.{start}
 use Rattle.incremental_progress.specs.Entries.{pieceEntry}
 use Rattle.incremental_progress.specs.Intervals.{Interval, listed}
 use Rattle.incremental_progress.specs.Gaps.{gapTo, lastGap, gapFrom, gapsFrom, gaps, pieces, gapEntries, Placed, gapsMet, runGaps, placed}
-use Rattle.incremental_progress.proofs.Lists.{All, All-map, All-of, All-both, All-append, All-flatMap, All-mapped, All-unmapped, Pairwise, Pairwise-append, Pairwise-all}
+use Rattle.base.specs.Lists.{All, All-map, All-of, All-both, All-append, All-flatMap, All-mapped, All-unmapped, Pairwise, Pairwise-append, Pairwise-all}
 use Rattle.incremental_progress.proofs.Sort.{Sorted}
 use Rattle.incremental_progress.proofs.Pieces.{All-keep}
 use Rattle.incremental_progress.proofs.Subtraction.{cuts, intersect-cuts}

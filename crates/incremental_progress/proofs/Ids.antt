@@ -27,7 +27,7 @@ use Rattle.incremental_progress.specs.Parts.{intervals}
 use Rattle.incremental_progress.specs.Jobs.{isOutput, others}
 use Rattle.incremental_progress.specs.Checks.{covered, outputViewsCovered}
 use Rattle.incremental_progress.proofs.Commit.{beside}
-use Rattle.incremental_progress.proofs.Lists.{take-again}
+use Rattle.base.specs.Lists.{take-again}
 use Rattle.incremental_progress.proofs.Checks.{Checked}
 
 module _ {A : Type 0} {R : A → A → Type 0} where

@@ -22,7 +22,7 @@ use Rattle.incremental_progress.specs.Views.{shown}
 use Rattle.incremental_progress.proofs.Marked.{marked, publish, published}
 use Rattle.incremental_progress.specs.Entries.{whole, cut, outputEntries}
 use Rattle.incremental_progress.specs.Parts.{plannedInterval, lastWritten, isKey, upToKey, durable, intervals, identity, openKey, listings, listedIn}
-use Rattle.incremental_progress.proofs.Lists.{All, All-map}
+use Rattle.base.specs.Lists.{All, All-map}
 use Rattle.incremental_progress.proofs.Span.{within-parts, within-yes}
 use Rattle.incremental_progress.proofs.Subtraction.{holds-within}
 use Rattle.incremental_progress.proofs.Views.{shown-append}

@@ -11,7 +11,7 @@ use Rattle.comparable_range.proofs.Cut.{≼-trans, ≼-refl, ≺-≼, ≼-not-�
 use Rattle.records.specs.Values.{Table, Part}
 use Rattle.incremental_progress.specs.Intervals.{cutOut, listed}
 use Rattle.incremental_progress.specs.Parts.{plannedInterval, lastWritten, durable, intervals, LaterPart, LaterParts, same-end, part-by-part}
-use Rattle.incremental_progress.proofs.Lists.{All, All-left, map-append}
+use Rattle.base.specs.Lists.{All, All-left, map-append}
 use Rattle.incremental_progress.proofs.Span.{Span}
 use Rattle.incremental_progress.proofs.Cutting.{Grown, done, begun, grown}
 use Rattle.incremental_progress.proofs.Subtraction.{spanOf, cut-out-later}

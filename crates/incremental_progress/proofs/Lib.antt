@@ -21,7 +21,6 @@ pub mod Ids
 pub mod Job
 pub mod LastKey
 pub mod Later
-pub mod Lists
 pub mod NewImages
 pub mod OnBytes
 pub mod Follow
@@ -41,7 +40,6 @@ pub mod Views
 pub mod OutputIds
 pub mod DrawnIds
 pub mod ByKeys
-pub mod ReadKeys
 pub mod OutputKeys
 pub mod OrderAfter
 pub mod Enough

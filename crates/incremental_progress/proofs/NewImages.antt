@@ -24,10 +24,11 @@ use Rattle.incremental_progress.specs.Parts.{intervals}
 use Rattle.incremental_progress.specs.Draws.{Ten, got, newId, draw, fill, fillCommit}
 use Rattle.incremental_progress.specs.Entries.{Entry, whole, cut}
 use Rattle.incremental_progress.proofs.Marked.{AllClosed, none-left, one-more, ClosedImage, no-runs, one-run}
-use Rattle.incremental_progress.proofs.Lists.{All, All-map, All-mapped, All-unmapped}
+use Rattle.base.specs.Lists.{All, All-map, All-mapped, All-unmapped}
 use Rattle.incremental_progress.proofs.Checks.{all-each}
 use Rattle.incremental_progress.proofs.Drawing.{IsTen, Of, next-of, draw-ten, got-of, Ready, Kept, fillCommit-keeps}
-use Rattle.incremental_progress.proofs.Ceilings.{ViewWithin, RunWithin, ImageWithin, image-parts, image-within, PartWithin, job-parts, intervals-within, EntryWithin, viewEntries-within, outputs-within}
+use Rattle.records.proofs.Within.{ViewWithin, RunWithin, ImageWithin, image-parts, image-within, PartWithin, job-parts}
+use Rattle.incremental_progress.proofs.Ceilings.{intervals-within, EntryWithin, viewEntries-within, outputs-within}
 
 -- ---- a test that each element passes
 pub true-all : {A : Type 0} (p : A → Bool) (xs : List A) → All (λ x. p x ≡ true) xs → all p xs ≡ true

@@ -28,7 +28,7 @@ use Rattle.incremental_progress.specs.Checks.{destinationIsSource}
 use Rattle.incremental_progress.specs.Draws.{supply}
 use Rattle.incremental_progress.specs.Patterns.{Pattern, known, unknown, afterId, idPattern, entryPattern, runPattern, imagePattern, AlikeBut, both-ended, equal, free}
 use Rattle.incremental_progress.specs.OpenPlaces.{openFrom, openPlaces, numbers, lastTen, viewPlaces, runPlaces, idPlaces, IdsStandThere, undrawn, isDrawn, areDrawn, those, drawnPlaces, OpenPlacesAreDrawn, NewIdsStandThere, DifferInDrawnBits}
-use Rattle.incremental_progress.proofs.Lists.{All, flatMap-append, map-append}
+use Rattle.base.specs.Lists.{All, flatMap-append, map-append}
 use Rattle.incremental_progress.proofs.Marked.{marked, Fills, Each, no-more, and, FillsRun, same-id, Closed, AllClosed, none-left, one-more, ClosedImage, no-runs, one-run}
 use Rattle.incremental_progress.proofs.Filling.{Full, markRun, marked-runs, runs-full, commit-fills}
 use Rattle.incremental_progress.proofs.Patterned.{view-bytes, run-bytes, fits-entry, fits-run}

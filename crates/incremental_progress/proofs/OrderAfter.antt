@@ -26,7 +26,7 @@ use Rattle.incremental_progress.proofs.Marked.{marked}
 use Rattle.incremental_progress.specs.Entries.{pieceEntry, viewEntries, runEntries, partEntries}
 use Rattle.incremental_progress.specs.Members.{In}
 use Rattle.incremental_progress.specs.OrderAfter.{Accepts, leftStarts, otherSource, leftAscends, OrderAfter, OrderAfterCommit, NoneReaches, next-view, NoneReachesPassesSix}
-use Rattle.incremental_progress.proofs.Lists.{All, All-map, All-both, All-flatMap, All-unmapped, Pairwise, Pairwise-append, Pairwise-map, Pairwise-mapped, Pairwise-unmapped, Pairwise-flatMap, map-flatMap, flatMap-alike}
+use Rattle.base.specs.Lists.{All, All-map, All-both, All-flatMap, All-unmapped, Pairwise, Pairwise-append, Pairwise-map, Pairwise-mapped, Pairwise-unmapped, Pairwise-flatMap, map-flatMap, flatMap-alike}
 use Rattle.incremental_progress.proofs.Sort.{Sorted, sort-sorted}
 use Rattle.incremental_progress.proofs.Span.{Span, keep, until, since, less}
 use Rattle.incremental_progress.proofs.Cutting.{Proper, cutSpans}

@@ -20,7 +20,7 @@ use Rattle.incremental_progress.specs.Parts.{plannedInterval, isKey, dur
 use Rattle.incremental_progress.specs.Draws.{Ten, got, fillAll}
 use Rattle.incremental_progress.specs.Entries.{Entry, whole, cut, outputEntries, partEntries}
 use Rattle.incremental_progress.specs.Gaps.{ofInterval, fillParts}
-use Rattle.incremental_progress.proofs.Lists.{All, All-map, All-append, All-unmapped, Pairwise, Pairwise-append, Pairwise-all, map-flatMap}
+use Rattle.base.specs.Lists.{All, All-map, All-append, All-unmapped, Pairwise, Pairwise-append, Pairwise-all, map-flatMap}
 use Rattle.incremental_progress.proofs.Sort.{Sorted}
 use Rattle.incremental_progress.proofs.Job.{fromCut, toCut, Ascending, no-more, output, Planned, no-parts, with-part, Fits, fits-all, uncut, Status, finished, nothing, ongoing, status}
 use Rattle.incremental_progress.proofs.GapLaws.{Outs, no-outs, outs-of}

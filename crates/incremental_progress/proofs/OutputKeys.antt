@@ -25,16 +25,16 @@ use Rattle.incremental_progress.specs.Parts.{keyOf, plannedInterval, las
 use Rattle.incremental_progress.specs.Checks.{nothingLeft, covered, outputViewsCovered}
 use Rattle.incremental_progress.specs.Members.{In, here, further}
 use Rattle.incremental_progress.specs.ByKeys.{Uncovered, CheckTwelveByKeys}
-use Rattle.incremental_progress.proofs.Lists.{All, All-map, All-flatMap, All-mapped, All-unmapped}
+use Rattle.base.specs.Lists.{All, All-map, All-flatMap, All-mapped, All-unmapped}
 use Rattle.incremental_progress.proofs.Subtraction.{cuts, spanOf, cut-out-cuts, Sound, times-cut-out}
 use Rattle.incremental_progress.proofs.Pieces.{Inside}
 use Rattle.incremental_progress.proofs.Vanish.{EndsAt, from-cut}
 use Rattle.incremental_progress.proofs.Views.{cut-inside}
 use Rattle.incremental_progress.proofs.Commit.{sound}
 use Rattle.incremental_progress.proofs.Checks.{all-each, sane, covered-under, implied, job-parts}
-use Rattle.incremental_progress.proofs.Ceilings.{If}
+use Rattle.records.proofs.Within.{If}
 use Rattle.incremental_progress.proofs.ByKeys.{of-all}
-use Rattle.incremental_progress.proofs.ReadKeys.{TableBytes, ViewBytes, PartBytes, effective-bytes, image-keys, job-keys}
+use Rattle.manifest.proofs.ReadKeys.{TableBytes, ViewBytes, PartBytes, effective-bytes, image-keys, job-keys}
 
 -- ---- cuts just before a key of bytes
 record ByteCut (c : Cut) : Type 0 where
@@ -89,7 +89,7 @@ ends-at iv h = go (iv .end) h
 view-starts : (v : View) → tablePasses v ≡ true → ViewBytes v → ByteCut (startCut (effective v .start))
 view-starts v t b =
     let s = effective-start-is-held v t in
-    record { key = s .key; of-bytes = rw (s .start) at (effective-bytes v b); is = rw (s .start) }
+    record { key = s .key; of-bytes = rw (s .start) at (effective-bytes v b .start); is = rw (s .start) }
 
 -- ---- a key of what is left of a view: the start of the first piece
 record Left (ivs : List Interval) (v : View) : Type 0 where

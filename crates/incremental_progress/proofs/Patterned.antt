@@ -18,7 +18,7 @@ use Rattle.incremental_progress.specs.Ids as ids
 use Rattle.incremental_progress.specs.Entries.{Entry, whole, cut}
 use Rattle.incremental_progress.specs.Jobs.{OpenRun, commitRuns}
 use Rattle.incremental_progress.specs.Patterns.{Pattern, known, unknown, afterId, idPattern, entryPattern, runPattern, imagePattern, Fits, ended, same, any, AlikeBut, both-ended, equal, free}
-use Rattle.incremental_progress.proofs.Lists.{All}
+use Rattle.base.specs.Lists.{All}
 use Rattle.incremental_progress.proofs.Marked.{cutView, marked, markedRuns, Fills, kept, drawn, Each, no-more, and, FillsRun, same-id, FillsImage, Closed, AllClosed, none-left, one-more, ClosedImage, no-runs, one-run, FullParts}
 use Rattle.incremental_progress.proofs.Ids.{time-short}
 use Rattle.incremental_progress.proofs.Filling.{Full, markRun, marked-runs, runs-full}

@@ -7,7 +7,7 @@ use Rattle.base.specs.Pick.{pick}
 use Rattle.comparable_range.specs.Cut.{Cut, below, cutAtMost, _≼_, _≺_, later}
 use Rattle.comparable_range.proofs.Cut.{≼-trans, ≼-refl, ≺-≼, ≺-≼-trans, order, below-≼}
 use Rattle.comparable_range.proofs.Lattice.{later-left, later-right, ≼-later-left, ≼-later-right, sooner-≼-left, sooner-≼-right}
-use Rattle.incremental_progress.proofs.Lists.{All, All-map, All-append, All-flatMap}
+use Rattle.base.specs.Lists.{All, All-map, All-append, All-flatMap}
 use Rattle.incremental_progress.proofs.Span.{Span, keep, until, since, less, keep-none, keep-some}
 use Rattle.incremental_progress.proofs.Cutting.{Proper, cutSpans}
 

@@ -12,7 +12,7 @@ use Rattle.incremental_progress.specs.Parts.{intervals}
 use Rattle.incremental_progress.specs.Jobs.{LaterJob}
 use Rattle.incremental_progress.specs.Checks.{retainedMeets, retainedMeet}
 use Rattle.incremental_progress.specs.Laws.{LaterHoldsMore, RetainedAlwaysMeets}
-use Rattle.incremental_progress.proofs.Lists.{All, All-map}
+use Rattle.base.specs.Lists.{All, All-map}
 use Rattle.incremental_progress.proofs.Cutting.{grown-within}
 use Rattle.incremental_progress.proofs.Subtraction.{any-cuts}
 use Rattle.incremental_progress.proofs.Views.{cut-inside, retained-meets}

@@ -20,7 +20,7 @@ use Rattle.incremental_progress.specs.Views.{start}
 use Rattle.incremental_progress.proofs.Marked.{cutView, marked, retained, publish, published}
 use Rattle.incremental_progress.specs.Entries.{whole, cut, outputEntries}
 use Rattle.incremental_progress.specs.Parts.{plannedInterval, isKey, durable, intervals, identity}
-use Rattle.incremental_progress.proofs.Lists.{All, All-map, All-of, All-both, All-mapped, All-append, All-flatMap}
+use Rattle.base.specs.Lists.{All, All-map, All-of, All-both, All-mapped, All-append, All-flatMap}
 use Rattle.incremental_progress.proofs.Cutting.{Proper, Grown, grown-within, later-proper}
 use Rattle.incremental_progress.proofs.Subtraction.{cuts, cuts-injective, spanOf, cut-out-cuts, any-cuts, holds-within}
 use Rattle.incremental_progress.proofs.Vanish.{AtKey, at-key, Open, later-keeps, vanish}

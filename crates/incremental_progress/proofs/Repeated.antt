@@ -20,13 +20,13 @@ use Rattle.incremental_progress.specs.Commit.{drawnOr, resultFits, drawn
 use Rattle.incremental_progress.proofs.Marked.{markedRuns, FillsImage, ClosedImage}
 use Rattle.incremental_progress.specs.NewImages.{PassesAgain}
 use Rattle.incremental_progress.specs.Repeated.{StopsIn, AcceptedGivenEnough, LastIsAcceptedAlone, SameRecordAgain}
-use Rattle.incremental_progress.proofs.Lists.{All, All-map}
+use Rattle.base.specs.Lists.{All, All-map}
 use Rattle.incremental_progress.proofs.Commit.{no-commit, first-accepted, later-accepted, as-if-alone}
 use Rattle.incremental_progress.proofs.Checks.{Checked, job-parts, passes}
 use Rattle.incremental_progress.proofs.Ids.{image-self, image-trans, fills-commit, fills-checked, covered-fills}
 use Rattle.incremental_progress.proofs.Filling.{commit-fills}
 use Rattle.incremental_progress.proofs.Drawing.{supply-tens}
-use Rattle.incremental_progress.proofs.Ceilings.{ImageWithin, PartWithin}
+use Rattle.records.proofs.Within.{ImageWithin, PartWithin}
 use Rattle.incremental_progress.proofs.NewImages.{true-all, new-closed, new-ids, closed, Stored, stored, read-again, job-within}
 use Rattle.incremental_progress.proofs.Outcomes.{same-answer, job-passes, Passes, Made, Accepted, accepted-commit}
 use Rattle.incremental_progress.proofs.Accepted.{accepted-stored, accepted-image-passes-again}

@@ -8,7 +8,7 @@ use Rattle.base.specs.Pick.{pick}
 use Rattle.comparable_range.specs.Cut.{Cut, cutAtMost, _≼_, _≺_}
 use Rattle.incremental_progress.specs.Sort.{insert, sort}
 use Rattle.comparable_range.proofs.Cut.{≼-trans, ≼-refl, ≼-antisym, ≺-≼, ≺-≼-trans, order}
-use Rattle.incremental_progress.proofs.Lists.{All, All-map, Pairwise}
+use Rattle.base.specs.Lists.{All, All-map, Pairwise}
 
 -- the cuts are equal
 unfoldable pub eq-cut : Cut → Cut → Bool

@@ -12,7 +12,7 @@ use Rattle.comparable_range.specs.Cut.{Cut, before, after, cutAtMost, _≼_, _�
 use Rattle.comparable_range.proofs.Cut.{no-cut-between, ≼-trans, ≺-≼, ≼-not-≺, order, before-≺-after, ≼-refl}
 use Rattle.comparable_range.proofs.Lattice.{lattice, later-right, later-left, sooner-left, sooner-right, ≼-later-left, sooner-≼-left, at-most-sooner, later-at-most}
 use Rattle.incremental_progress.specs.Intervals.{bit}
-use Rattle.incremental_progress.proofs.Lists.{flatMap-append}
+use Rattle.base.specs.Lists.{flatMap-append}
 
 pub record Span : Type 0 where
   pub from : Cut

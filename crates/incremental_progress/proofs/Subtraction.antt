@@ -13,7 +13,7 @@ use Rattle.comparable_range.proofs.Cut.{≺-≼, below-≼, ≼-above, cut-belo
 use Rattle.comparable_range.proofs.Lattice.{later-left, later-right, sooner-left, sooner-right}
 use Rattle.comparable_range.proofs.ByCuts.{start-injective, end-injective, passes-by-cuts, passes-≺, holds-by-cuts, start-side-cut, end-side-cut}
 use Rattle.incremental_progress.specs.Intervals.{Interval, listed, partBefore, partFrom, subtractFrom, cutOut, startBound, endBound, toRange, anyHolds, bit, times}
-use Rattle.incremental_progress.proofs.Lists.{All, All-mapped, map-append}
+use Rattle.base.specs.Lists.{All, All-mapped, map-append}
 use Rattle.incremental_progress.proofs.Span as span
 use Rattle.incremental_progress.proofs.Span.{Span, keep, until, since, less, within, keep-none, times-less, absorb, commute}
 use Rattle.incremental_progress.proofs.Cutting.{Proper, cutSpans, anyWithin, times-cut, Grown, recut}

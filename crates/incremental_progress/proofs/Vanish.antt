@@ -12,7 +12,7 @@ use Rattle.comparable_range.specs.Cut.{Cut, before, above, _≺_, later}
 use Rattle.comparable_range.proofs.Cut.{≼-refl, ≺-≼, ≼-not-≺, order, ≼-above, no-cut-between}
 use Rattle.comparable_range.proofs.Lattice.{later-left, later-right}
 use Rattle.incremental_progress.specs.Intervals.{bit}
-use Rattle.incremental_progress.proofs.Lists.{All, All-append, All-flatMap}
+use Rattle.base.specs.Lists.{All, All-append, All-flatMap}
 use Rattle.incremental_progress.proofs.Span.{Span, keep, until, since, less, within, times}
 use Rattle.incremental_progress.proofs.Cutting.{Proper, cutSpans, anyWithin, times-cut}
 use Rattle.incremental_progress.proofs.Pieces.{Inside, inside-cut, All-keep}

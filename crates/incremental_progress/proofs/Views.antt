@@ -25,7 +25,7 @@ use Rattle.manifest.specs.Ranges.{own, cutBy, effective}
 use Rattle.incremental_progress.specs.Intervals.{Interval, subtractFrom, cutOut, anyHolds, bit, times}
 use Rattle.incremental_progress.specs.Views.{sameRange, shown}
 use Rattle.incremental_progress.proofs.Marked.{onlyTime, cutView, piece, retained, cutRun}
-use Rattle.incremental_progress.proofs.Lists.{All, All-map, All-unmapped, map-alike, flatMap-append, flatMap-alike, flatMap-flatMap, flatMap-map, map-flatMap, take-again}
+use Rattle.base.specs.Lists.{All, All-map, All-unmapped, map-alike, flatMap-append, flatMap-alike, flatMap-flatMap, flatMap-map, map-flatMap, take-again}
 use Rattle.incremental_progress.proofs.Cutting.{Grown}
 use Rattle.incremental_progress.proofs.Subtraction.{cuts, same-cuts, spanOf, cut-out-cuts, Sound, cut-out-later, times-cut-out}
 use Rattle.incremental_progress.proofs.Pieces.{Inside, inside-cut}

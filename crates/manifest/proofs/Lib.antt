@@ -10,3 +10,4 @@ pub mod WholeExits
 pub mod IndexExits
 pub mod AnchorExits
 pub mod Examples
+pub mod ReadKeys

@@ -13,3 +13,5 @@ pub use indexes::index_at;
 pub use indexes::index_judged;
 pub use jobs::job_judged;
 pub use ranges::effective;
+pub use ranges::own_end;
+pub use ranges::own_start;

@@ -12,7 +12,7 @@ use Rattle.records.specs.Form.{writeMany}
 use Rattle.records.specs.Values.{View}
 use Rattle.records.specs.Layouts.{view}
 use Rattle.incremental_progress.specs.Gaps.{Placed, inGap, byGap, placed}
-use Rattle.incremental_progress.proofs.Lists.{All}
+use Rattle.base.specs.Lists.{All}
 use Rattle.drawn.specs.Supply.{viewBytes}
 
 -- ---- what items weigh together

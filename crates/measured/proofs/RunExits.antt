@@ -24,7 +24,7 @@ use Rattle.incremental_progress.specs.Parts.{intervals}
 use Rattle.incremental_progress.specs.Draws.{Drawn, next, supply, fillAll}
 use Rattle.incremental_progress.specs.Draws as draws
 use Rattle.incremental_progress.specs.Gaps.{gaps, gapEntries, runGaps, placed, byGap, gapViews}
-use Rattle.incremental_progress.proofs.Lists.{All}
+use Rattle.base.specs.Lists.{All}
 use Rattle.incremental_progress.proofs.FilledViews.{filled-length}
 use Rattle.incremental_progress.proofs.GapStarts.{gaps-length, run-gaps-bound}
 use Rattle.drawn.specs.Supply.{viewBytes, SizedFound}

@@ -25,7 +25,7 @@ use Rattle.records.specs.declared.parts.JobRead.the-variants.{At as JobAt, Stop
 use Rattle.records.proofs.PartExits.{jobOf, job-is}
 use Rattle.records.proofs.Walk.{Walk, walk-begin, walk-all, walk-never, walk-here, walk-ahead, walk-onward}
 use Rattle.incremental_progress.specs.Jobs.{outputs}
-use Rattle.incremental_progress.proofs.Lists.{flatMap-append}
+use Rattle.base.specs.Lists.{flatMap-append}
 use Rattle.progress.specs.Spans.{jobIn}
 use Rattle.progress.proofs.PartThere.{partWith, part-stops, outputs-place, outputs-there, part-past, part-here}
 use Rattle.output_views.specs.Ids.{idAt, idIn, anyIn}

@@ -29,7 +29,7 @@ use Rattle.incremental_progress.specs.Draws as draws
 use Rattle.incremental_progress.specs.Gaps.{pieces, gapEntries}
 use Rattle.incremental_progress.specs.declared.Draw.{Draw}
 use Rattle.incremental_progress.specs.declared.Draw.the-variants.{At as DrawAt, UsedUp as DrawUsedUp}
-use Rattle.incremental_progress.proofs.Lists.{map-append}
+use Rattle.base.specs.Lists.{map-append}
 use Rattle.drawn.specs.Supply.{idAt, DrawFound, viewBytes, SizedFound}
 use Rattle.drawn.specs.declared.Sized.{Sized}
 use Rattle.drawn.specs.declared.Sized.the-variants.{At as SizedAt, UsedUp as SizedUsedUp}

@@ -31,7 +31,7 @@ use Rattle.records.proofs.Walk.{Walk, walk-begin, walk-all, walk-here, walk-onw
 use Rattle.incremental_progress.specs.Intervals.{Interval, listed}
 use Rattle.incremental_progress.specs.Parts.{keyOf, durable, intervals}
 use Rattle.incremental_progress.specs.Gaps.{void, gapTo, lastGap, gapFrom, gapsFrom, gaps}
-use Rattle.incremental_progress.proofs.Lists.{flatMap-append}
+use Rattle.base.specs.Lists.{flatMap-append}
 use Rattle.progress.specs.Tables.{gapsIn, Table, none-left}
 use Rattle.progress.specs.Spans.{gapNumbers, PartPassed, startIn, StartInside, StartFound, RangeMade, jobIn, GapsFound}
 use Rattle.progress.specs.declared.gaps.GapStart.{GapStart}

@@ -29,7 +29,7 @@ use Rattle.incremental_progress.specs.Parts.{intervals}
 use Rattle.incremental_progress.specs.Draws.{Ten, Drawn, used-up, next, supply}
 use Rattle.incremental_progress.specs.Draws as draws
 use Rattle.incremental_progress.specs.Gaps.{gapEntries, runGaps, placed, byGap, gapViews, fillParts}
-use Rattle.incremental_progress.proofs.Lists.{All}
+use Rattle.base.specs.Lists.{All}
 use Rattle.incremental_progress.proofs.FilledViews.{filled-length}
 use Rattle.incremental_progress.proofs.GapStarts.{gaps-length, run-gaps-bound}
 use Rattle.drawn.specs.Bytes.{partOf}

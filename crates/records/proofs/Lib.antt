@@ -13,3 +13,4 @@ pub mod Pasts
 pub mod PartExits
 pub mod BlockExits
 pub mod Examples
+pub mod Within

@@ -17,6 +17,7 @@ use Rattle.records.specs.Form.{range}
 use Rattle.records.specs.Layouts.{image}
 use Rattle.manifest.specs.Checks.{has, Checks, checked, imageChecks, imageGiven}
 use Rattle.db_state.specs.Places.{at, placed, viewAt, viewGiven}
+use Rattle.db_state.specs.LookupCalls.{viewsAt}
 use Rattle.incremental_progress.specs.Repeated.{StopsIn}
 use Rattle.incremental_progress.proofs.Repeated.{answers, stops}
 use Rattle.bilqarush.specs.Calls.{rangeGiven, rangesGiven}
@@ -66,6 +67,9 @@ module _ {ns : List ℕ} where
   pub placed-stops : {A : Type 0} (o : Option A) → has 9 ns ≡ true → StopsIn ns (placed o)
   placed-stops none h = stops 9 h
   placed-stops (some a) h = answers a
+
+  pub views-at : (i : Image) (run : ℕ) → has 9 ns ≡ true → StopsIn ns (viewsAt i run)
+  views-at i run h = and-then (placed (at i run)) (placed-stops (at i run) h) (λ r. answers _)
 
   pub view-at : (i : Image) (run view : ℕ) → has 9 ns ≡ true → StopsIn ns (viewAt i run view)
   unfolding viewAt

@@ -17,7 +17,7 @@ use Rattle.incremental_progress.specs.Repeated.{StopsIn}
 use Rattle.incremental_progress.proofs.Repeated.{answers}
 use Rattle.stop_lists.specs.Stops.{keyLookupStops, partitionsCoveringRangeStops, rangeLookupStops}
 use Rattle.stop_lists.proofs.Stopping.{checks, and-then, key-given, ReadsKeys, index-stops, whole-stops}
-use Rattle.stop_lists.proofs.GivenStops.{whole-range, bound-given, three-listed, seven-listed, checked-stops, whole-image, placed-stops, view-at}
+use Rattle.stop_lists.proofs.GivenStops.{whole-range, bound-given, three-listed, seven-listed, checked-stops, whole-image, placed-stops, views-at, view-at}
 
 -- ---- in an index
 keys-listed : ReadsKeys keyLookupStops
@@ -48,25 +48,21 @@ image-and-range l q =
     and-then (whole (image .read) l) (whole-image seven-listed l) (λ i.
     and-then (whole readRange q) (whole-range three-listed q) (λ r. checked-asked i r))
 
-views-at : (i : Image) (run : ℕ) → StopsIn rangeLookupStops (viewsAt i run)
-unfolding has
-views-at i run = and-then (placed (at i run)) (placed-stops (at i run) refl) (λ r. answers _)
-
 pub table-idx-stops : (l : List ℕ) (run : ℕ) (q : List ℕ) → StopsIn rangeLookupStops (tableIdxCoveringRangeOutcome l run q)
-unfolding tableIdxCoveringRangeOutcome
+unfolding tableIdxCoveringRangeOutcome has
 table-idx-stops l run q =
-    and-then (imageAndRange l q) (image-and-range l q) (λ a. and-then (viewsAt (a .image) run) (views-at (a .image) run) (λ vs. answers _))
+    and-then (imageAndRange l q) (image-and-range l q) (λ a. and-then (viewsAt (a .image) run) (views-at (a .image) run refl) (λ vs. answers _))
 
 pub overlaps-stops : (l : List ℕ) (run : ℕ) (q : List ℕ) → StopsIn rangeLookupStops (overlapsRangeOutcome l run q)
-unfolding overlapsRangeOutcome
+unfolding overlapsRangeOutcome has
 overlaps-stops l run q =
-    and-then (imageAndRange l q) (image-and-range l q) (λ a. and-then (viewsAt (a .image) run) (views-at (a .image) run) (λ vs. answers _))
+    and-then (imageAndRange l q) (image-and-range l q) (λ a. and-then (viewsAt (a .image) run) (views-at (a .image) run refl) (λ vs. answers _))
 
 pub compacted-intersection-stops : (l : List ℕ) (run view : ℕ) (q : List ℕ) → StopsIn rangeLookupStops (compactedIntersectionOutcome l run view q)
 unfolding compactedIntersectionOutcome has
 compacted-intersection-stops l run view q =
     and-then (imageAndRange l q) (image-and-range l q) (λ a.
-    and-then (viewsAt (a .image) run) (views-at (a .image) run) (λ vs.
+    and-then (viewsAt (a .image) run) (views-at (a .image) run refl) (λ vs.
     and-then (placed (at vs view)) (placed-stops (at vs view) refl) (λ v. answers _)))
 
 pub view-range-stops : (l : List ℕ) (run view : ℕ) (q : List ℕ) → StopsIn rangeLookupStops (calculateViewRangeOutcome l run view q)

@@ -36,7 +36,7 @@ same-stop {k = k} {n = n} e = ap stop (let z : k ≡ n = cc in z)
 
 module _ {n : ℕ} where
   -- the same first step, and then a step that stops where another does
-  after : {A B C : Type 0} (o : Outcome A) {f : A → Outcome B} {g : A → Outcome C} → ((a : A) → f a ≡ stop n → g a ≡ stop n) → andThen o f ≡ stop n → andThen o g ≡ stop n
+  pub after : {A B C : Type 0} (o : Outcome A) {f : A → Outcome B} {g : A → Outcome C} → ((a : A) → f a ≡ stop n → g a ≡ stop n) → andThen o f ≡ stop n → andThen o g ≡ stop n
   after (stop k) t e = same-stop e
   after (answer a) t e = t a e
 

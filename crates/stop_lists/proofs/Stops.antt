@@ -18,6 +18,8 @@ use Rattle.manifest.specs.Checks.{has, joined, imageChecks, jobChecks, imageGiv
 use Rattle.partitioned_keyspace.specs.Asked.{indexAndKey, indexAndRange}
 use Rattle.partitioned_keyspace.specs.Calls.{partitionPointOutcome, firstPartitionIncludingKeyOutcome, firstPartitionIncludingOrAfterKeyOutcome, lastPartitionIncludingKeyOutcome, partitionsCoveringRangeOutcome}
 use Rattle.db_state.specs.Places.{viewGiven}
+use Rattle.db_state.specs.LookupCalls.{viewsAt}
+use Rattle.view_sizes.specs.SizeCalls.{visibleFractionOutcome, estimateVisibleSizeOutcome, estimateRunVisibleSizeOutcome}
 use Rattle.listing.specs.Listing.{listing}
 use Rattle.incremental_progress.specs.Checks.{destinationIsSource, sourcesThere, plannedInOrder, outputsInOrder, outputViewsCovered}
 use Rattle.incremental_progress.specs.Draws.{Drawn, used-up, got, supply, fillCommit}
@@ -30,7 +32,7 @@ use Rattle.stop_lists.specs.Stops.{intersectStops, fromPrefixAndSubrange
 use Rattle.incremental_progress.specs.Repeated.{StopsIn}
 use Rattle.incremental_progress.proofs.Repeated.{answers, stops}
 use Rattle.stop_lists.proofs.Stopping.{checks, and-then, written, key-given, job-stops, whole-stops}
-use Rattle.stop_lists.proofs.GivenStops.{whole-range, range-given, ranges-given, bound-given, three-listed, seven-listed, checked-stops, whole-image, image-given, view-given}
+use Rattle.stop_lists.proofs.GivenStops.{whole-range, range-given, ranges-given, bound-given, three-listed, seven-listed, checked-stops, whole-image, image-given, views-at, view-given}
 use Rattle.stop_lists.proofs.LookupStops.{index-and-key, index-and-range, table-idx-stops, overlaps-stops, compacted-intersection-stops, view-range-stops, intersects-stops}
 
 -- ---- a commit
@@ -75,7 +77,7 @@ unfolding intersectOutcome has
 intersect-stops a b = and-then (rangesGiven a b) (ranges-given three-listed a b refl) (λ p. answers _)
 
 pub each-stop-is-listed : EachStopIsListed
-unfolding compareOutcome cmpBoundOutcome nonEmptyOutcome containsOutcome asPointOutcome intersectStartKeyOutcome intersectEndKeyOutcome unionOutcome fromPrefixOutcome fromPrefixAndSubrangeOutcome checkImageOutcome compactedEffectiveRangeOutcome listOutcome partitionPointOutcome firstPartitionIncludingKeyOutcome firstPartitionIncludingOrAfterKeyOutcome lastPartitionIncludingKeyOutcome partitionsCoveringRangeOutcome has
+unfolding compareOutcome cmpBoundOutcome nonEmptyOutcome containsOutcome asPointOutcome intersectStartKeyOutcome intersectEndKeyOutcome unionOutcome fromPrefixOutcome fromPrefixAndSubrangeOutcome checkImageOutcome compactedEffectiveRangeOutcome listOutcome partitionPointOutcome firstPartitionIncludingKeyOutcome firstPartitionIncludingOrAfterKeyOutcome lastPartitionIncludingKeyOutcome partitionsCoveringRangeOutcome visibleFractionOutcome estimateVisibleSizeOutcome estimateRunVisibleSizeOutcome has
 each-stop-is-listed =
     record {
       compare = λ a b.
@@ -111,6 +113,13 @@ each-stop-is-listed =
       compacted-intersection = compacted-intersection-stops;
       calculate-view-range = view-range-stops;
       intersects-range = intersects-stops;
+      visible-fraction = λ l run view.
+          and-then (viewGiven l run view) (view-given seven-listed l run view refl) (λ v. answers _);
+      estimate-visible-size = λ l run view.
+          and-then (viewGiven l run view) (view-given seven-listed l run view refl) (λ v. answers _);
+      estimate-run-visible-size = λ l run.
+          and-then (imageGiven l) (image-given seven-listed l) (λ i.
+          and-then (viewsAt i run) (views-at i run refl) (λ vs. answers _));
       commit = commit-stops;
     }
 
@@ -151,5 +160,8 @@ no-stop-is-zero =
       compacted-intersection = λ l run view q. unlisted 0 (each .compacted-intersection l run view q) refl;
       calculate-view-range = λ l run view q. unlisted 0 (each .calculate-view-range l run view q) refl;
       intersects-range = λ l run view kind end q. unlisted 0 (each .intersects-range l run view kind end q) refl;
+      visible-fraction = λ l run view. unlisted 0 (each .visible-fraction l run view) refl;
+      estimate-visible-size = λ l run view. unlisted 0 (each .estimate-visible-size l run view) refl;
+      estimate-run-visible-size = λ l run. unlisted 0 (each .estimate-run-visible-size l run) refl;
       commit = λ given job′ ids room. unlisted 0 (each .commit given job′ ids room) refl;
     }

@@ -9,6 +9,7 @@ use Rattle.partitioned_keyspace.specs.Calls.{partitionPointOutcome, firstPartit
 use Rattle.partitioned_keyspace.specs.declared.Test.{Test}
 use Rattle.partitioned_keyspace.specs.declared.Test.the-variants.{Below}
 use Rattle.db_state.specs.LookupCalls.{tableIdxCoveringRangeOutcome, overlapsRangeOutcome, compactedIntersectionOutcome, calculateViewRangeOutcome, intersectsRangeOutcome}
+use Rattle.view_sizes.specs.SizeCalls.{visibleFractionOutcome, estimateVisibleSizeOutcome, estimateRunVisibleSizeOutcome}
 use Rattle.incremental_progress.specs.Commit.{commitOutcome}
 use Rattle.incremental_progress.specs.Repeated.{StopsIn}
 use Rattle.bilqarush.specs.Calls.{compareOutcome, cmpBoundOutcome, nonEmptyOutcome, containsOutcome, asPointOutcome, intersectOutcome, intersectStartKeyOutcome, intersectEndKeyOutcome, unionOutcome, fromPrefixOutcome, fromPrefixAndSubrangeOutcome}
@@ -75,6 +76,10 @@ partitionsCoveringRangeStops = 1 ∷ 2 ∷ 3 ∷ 4 ∷ 6 ∷ []
 abbrev pub rangeLookupStops : List ℕ
 rangeLookupStops = 1 ∷ 2 ∷ 3 ∷ 4 ∷ 5 ∷ 6 ∷ 7 ∷ 9 ∷ []
 
+-- the three calls on visible sizes: the image is refused, or the run or the view is not in it
+abbrev pub visibleSizeStops : List ℕ
+visibleSizeStops = 1 ∷ 2 ∷ 3 ∷ 4 ∷ 5 ∷ 6 ∷ 7 ∷ 9 ∷ []
+
 -- every one but 13: a retained range never misses its table's own range
 abbrev pub commitStops : List ℕ
 commitStops = 1 ∷ 2 ∷ 3 ∷ 4 ∷ 5 ∷ 6 ∷ 7 ∷ 8 ∷ 9 ∷ 10 ∷ 11 ∷ 12 ∷ 14 ∷ 15 ∷ 16 ∷ []
@@ -117,6 +122,9 @@ pub record OfEachCall (Says : (A : Type 0) → List ℕ → Outcome A → Type 0
   pub intersects-range :
       (image : List ℕ) (run view kind : ℕ) (end range : List ℕ)
       → Says _ rangeLookupStops (intersectsRangeOutcome image run view kind end range)
+  pub visible-fraction : (image : List ℕ) (run view : ℕ) → Says _ visibleSizeStops (visibleFractionOutcome image run view)
+  pub estimate-visible-size : (image : List ℕ) (run view : ℕ) → Says _ visibleSizeStops (estimateVisibleSizeOutcome image run view)
+  pub estimate-run-visible-size : (image : List ℕ) (run : ℕ) → Says _ visibleSizeStops (estimateRunVisibleSizeOutcome image run)
   pub commit : (image job ids : List ℕ) (room : ℕ) → Says _ commitStops (commitOutcome image job ids room)
 
 -- no call stops with a number that is not in its list
@@ -162,6 +170,9 @@ pub record EachListedStopIsReached : Type 0 where
   pub compacted-intersection : Reached (λ (x : List ℕ × List ℕ). compactedIntersectionOutcome (x .0) 0 0 (x .1)) rangeLookupStops
   pub calculate-view-range : Reached (λ (x : List ℕ × List ℕ). calculateViewRangeOutcome (x .0) 0 0 (x .1)) rangeLookupStops
   pub intersects-range : Reached (λ (x : List ℕ × List ℕ). intersectsRangeOutcome (x .0) 0 0 0 [] (x .1)) rangeLookupStops
+  pub visible-fraction : Reached (λ (image : List ℕ). visibleFractionOutcome image 0 0) visibleSizeStops
+  pub estimate-visible-size : Reached (λ (image : List ℕ). estimateVisibleSizeOutcome image 0 0) visibleSizeStops
+  pub estimate-run-visible-size : Reached (λ (image : List ℕ). estimateRunVisibleSizeOutcome image 0) visibleSizeStops
 
 pub record GivenToCommit : Type 0 where
   pub image : List ℕ

@@ -2,3 +2,4 @@ pub mod OrderExits
 pub mod PutExits
 pub mod Example
 pub mod LookupExample
+pub mod SizeExample

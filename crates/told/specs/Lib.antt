@@ -1,5 +1,7 @@
 pub mod Told
 pub mod Lookups
+pub mod Sizes
 pub mod Layouts
 pub mod Example
 pub mod LookupExample
+pub mod SizeExample

@@ -6,15 +6,20 @@ use base::Written;
 use bilqarush::Compared;
 use bilqarush::Counted;
 use bilqarush::Covered;
+use bilqarush::Estimated;
 use bilqarush::Found;
+use bilqarush::Shown;
 use bilqarush::Test;
 use bilqarush::Tested;
+use bilqarush::VisibleFraction;
 ghost use mathlib.Core.Path.{_≡_};
 ghost use Rattle.base.specs.Outcome.{testOf};
 ghost use Rattle.partitioned_keyspace.specs.Calls.{countOf, foundOf, coveredOf};
+ghost use Rattle.view_sizes.specs.SizeCalls.{fractionOf, sizeOf};
 ghost use Rattle.bilqarush.specs.Answers.{stopOf, orderOf};
 ghost use Rattle.told.specs.Told.{slot, counted};
 ghost use Rattle.told.specs.Lookups.{testGiven, FoundTold, CoveredTold};
+ghost use Rattle.told.specs.Sizes.{FractionTold};
 
 pub fn tell_order(c: Compared, order: &mut i8) -> u8
     ensures { λ r. ⌜ r ≡ stopOf (orderOf c) ⌝ }
@@ -104,6 +109,39 @@ pub fn tell_covered(c: Covered, start: &mut usize, end: &mut usize) -> u8
         Covered::Places(s, e) => {
             *start = s;
             *end = e;
+            0
+        }
+    }
+}
+
+// Whether a fraction is a part, and then its number.
+pub fn tell_fraction(s: Shown, part: &mut bool, fraction: &mut f64) -> u8
+    ensures { λ r. ⌜ FractionTold (fractionOf s) (now (part .entry)) (now (part .exit)) (now (fraction .entry)) (now (fraction .exit)) r ⌝ }
+{
+    match s {
+        Shown::Stop(n) => n,
+        Shown::Fraction(f) => match f {
+            VisibleFraction::Whole => {
+                *part = false;
+                0
+            }
+            VisibleFraction::Part(x) => {
+                *part = true;
+                *fraction = x;
+                0
+            }
+        },
+    }
+}
+
+pub fn tell_size(e: Estimated, size: &mut u64) -> u8
+    ensures { λ r. ⌜ r ≡ stopOf (sizeOf e) ⌝ }
+    ensures { λ _. ⌜ now (size .exit) ≡ slot (now (size .entry)) (sizeOf e) ⌝ }
+{
+    match e {
+        Estimated::Stop(n) => n,
+        Estimated::Bytes(n) => {
+            *size = n;
             0
         }
     }

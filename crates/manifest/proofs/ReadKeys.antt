@@ -10,7 +10,7 @@ use Rattle.base.specs.Outcome.{answer}
 use Rattle.key.specs.Order.{Key}
 use Rattle.comparable_range.specs.declared.Side.{Side}
 use Rattle.comparable_range.specs.declared.Side.the-variants.{First, Second}
-use Rattle.comparable_range.specs.Range.{Bound, unbounded, included, excluded, Range, of, startSide}
+use Rattle.comparable_range.specs.Range.{Bound, unbounded, included, excluded, Range, of, startSide, endSide}
 use Rattle.comparable_range.specs.Laws.{ByteBound, ByteRange}
 use Rattle.format.specs.Number.{writeNumber}
 use Rattle.format.specs.Key.{writeKey}
@@ -20,10 +20,10 @@ use Rattle.records.specs.Values.{Table, View, Run, Image, Part, Job}
 use Rattle.records.specs.Form.{Form, number, key, range, writeIf, writeMany}
 use Rattle.records.specs.Layouts.{flag, upTo, viewCount, outputCount, counted, isThere, table, view, run, image, part, job}
 use Rattle.records.proofs.RecordLayouts.{image-layout, job-layout}
-use Rattle.manifest.specs.Ranges.{own, cutBy, effective}
+use Rattle.manifest.specs.Ranges.{lastBound, own, cutBy, effective}
 use Rattle.manifest.proofs.Given.{whole-read}
-use Rattle.incremental_progress.proofs.Lists.{All}
-use Rattle.incremental_progress.proofs.Ceilings.{If}
+use Rattle.base.specs.Lists.{All}
+use Rattle.records.proofs.Within.{If}
 
 -- ---- what is written in bytes
 bytes-front : (k l : List ℕ) → Bytes (k ++ l) → Bytes k
@@ -59,7 +59,7 @@ range-written r b =
       end = bound-written (r .end) (bytes-rest (writeBound (r .start)) _ (bytes-tail b));
     }
 
--- ---- tables, views, parts
+-- ---- tables, views
 pub record TableBytes (t : Table) : Type 0 where
   pub first : Bytes (t .first)
   pub last : If Bytes (t .last)
@@ -85,19 +85,37 @@ view-written v b =
       visible = if-written ByteRange range range-written (v .visible) (bytes-rest (flag .write (isThere (v .visible))) _ (bytes-rest (table .write (v .table)) _ c));
     }
 
--- where a view starts
-pub effective-bytes : (v : View) → ViewBytes v → ByteBound (effective v .start)
-unfolding effective
-effective-bytes v h = go (v .visible) (h .visible)
+-- ---- the ranges of a view
+pub own-bytes : (t : Table) → TableBytes t → ByteRange (own t)
+own-bytes t b = record { start = b .first; end = go (t .last) (b .last) }
   where
-    side : (s : Side) (b : Bound) → ByteBound b → ByteBound (of s (included (v .table .first)) b)
-    side First b c = h .table .first
-    side Second b c = c
+    go : (o : Option Key) → If Bytes o → ByteBound (lastBound o)
+    go none c = tt
+    go (some k) c = c
 
-    go : (o : Option Range) → If ByteRange o → ByteBound (cutBy o (own (v .table)) .start)
-    go none c = h .table .first
-    go (some r) c = side (startSide (included (v .table .first)) (r .start)) (r .start) (c .start)
+either : (d : Side) (a b : Bound) → ByteBound a → ByteBound b → ByteBound (of d a b)
+either First a b p q = p
+either Second a b p q = q
 
+pub effective-bytes : (v : View) → ViewBytes v → ByteRange (effective v)
+unfolding effective
+effective-bytes v b = go (v .visible) (b .visible)
+  where
+    r : Range
+    r = own (v .table)
+
+    h : ByteRange r
+    h = own-bytes (v .table) (b .table)
+
+    go : (o : Option Range) → If ByteRange o → ByteRange (cutBy o r)
+    go none c = h
+    go (some q) c =
+        record {
+          start = either (startSide (r .start) (q .start)) (r .start) (q .start) (h .start) (c .start);
+          end = either (endSide (r .end) (q .end)) (r .end) (q .end) (h .end) (c .end);
+        }
+
+-- ---- parts
 pub record PartBytes (p : Part) : Type 0 where
   pub planned : ByteRange (p .planned)
   pub outputs : All TableBytes (p .outputs)

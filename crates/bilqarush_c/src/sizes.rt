@@ -1,0 +1,48 @@
+// Visible sizes of a view and of a run of an image for C.
+ghost use mathlib.Core.Path.{_≡_};
+ghost use Rattle.view_sizes.specs.SizeCalls.{visibleFractionOutcome, estimateVisibleSizeOutcome, estimateRunVisibleSizeOutcome};
+ghost use Rattle.bilqarush.specs.Answers.{stopOf};
+ghost use Rattle.told.specs.Told.{slot};
+ghost use Rattle.told.specs.Sizes.{FractionTold};
+
+#[no_mangle]
+pub extern "C" fn bilqarush_visible_fraction(
+    image: &[u8],
+    run: usize,
+    view: usize,
+    part: &mut bool,
+    fraction: &mut f64,
+) -> u8
+    ensures { λ r. ⌜ FractionTold (visibleFractionOutcome (now (image .entry)) run view) (now (part .entry)) (now (part .exit)) (now (fraction .entry)) (now (fraction .exit)) r ⌝ }
+{
+    told::tell_fraction(
+        bilqarush::visible_fraction(image, run, view),
+        part,
+        fraction,
+    )
+}
+
+#[no_mangle]
+pub extern "C" fn bilqarush_estimate_visible_size(
+    image: &[u8],
+    run: usize,
+    view: usize,
+    size: &mut u64,
+) -> u8
+    ensures { λ r. ⌜ r ≡ stopOf (estimateVisibleSizeOutcome (now (image .entry)) run view) ⌝ }
+    ensures { λ _. ⌜ now (size .exit) ≡ slot (now (size .entry)) (estimateVisibleSizeOutcome (now (image .entry)) run view) ⌝ }
+{
+    told::tell_size(bilqarush::estimate_visible_size(image, run, view), size)
+}
+
+#[no_mangle]
+pub extern "C" fn bilqarush_estimate_run_visible_size(
+    image: &[u8],
+    run: usize,
+    size: &mut u64,
+) -> u8
+    ensures { λ r. ⌜ r ≡ stopOf (estimateRunVisibleSizeOutcome (now (image .entry)) run) ⌝ }
+    ensures { λ _. ⌜ now (size .exit) ≡ slot (now (size .entry)) (estimateRunVisibleSizeOutcome (now (image .entry)) run) ⌝ }
+{
+    told::tell_size(bilqarush::estimate_run_visible_size(image, run), size)
+}

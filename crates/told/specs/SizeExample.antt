@@ -1,0 +1,69 @@
+-- Each answer on visible sizes, once in bytes, as a call for C tells it: of run 7 with one view, of a table with keys from 00 to
+-- 80 and a raw size of 5. Every number's slot holds 7 before.
+use Prim.Native.Nat.{ℕ}
+use mathlib.Core.Path.{_≡_}
+use mathlib.Core.Bool.{true, false}
+use mathlib.Core.List.{List, [], _∷_, _++_}
+use lib.Ieee.{Float, binary64, ofBits}
+use Rattle.view_sizes.specs.SizeCalls.{visibleFractionOutcome, estimateVisibleSizeOutcome, estimateRunVisibleSizeOutcome}
+use Rattle.bilqarush.specs.Answers.{stopOf}
+use Rattle.told.specs.Told.{slot}
+use Rattle.told.specs.Sizes.{FractionTold}
+
+-- ---- the image up to the view's visible flag
+abbrev pub from00To80 : List ℕ
+from00To80 =
+    1 ∷ 0 ∷ 0 ∷ 0 ∷ 7 ∷ 0 ∷ 16 ∷ 0 ∷ 0 ∷ 0 ∷ 0 ∷ 0 ∷ 0 ∷ 0 ∷ 0 ∷ 0 ∷ 0 ∷ 0 ∷ 0 ∷ 0
+    ∷ 0 ∷ 0 ∷ 1 ∷ 0 ∷ 0 ∷ 0 ∷ 0 ∷ 0 ∷ 0 ∷ 0 ∷ 0 ∷ 0 ∷ 0 ∷ 0 ∷ 0 ∷ 0 ∷ 0 ∷ 0 ∷ 1 ∷ 0
+    ∷ 0 ∷ 0 ∷ 0 ∷ 0 ∷ 0 ∷ 0 ∷ 3 ∷ 0 ∷ 0 ∷ 0 ∷ 0 ∷ 0 ∷ 0 ∷ 0 ∷ 2 ∷ 0 ∷ 0 ∷ 0 ∷ 0 ∷ 0
+    ∷ 0 ∷ 0 ∷ 0 ∷ 128 ∷ 0 ∷ 1 ∷ 0 ∷ 0 ∷ 1 ∷ 128 ∷ []
+
+-- from 00 up to, without, 40 is visible
+abbrev pub halfShown : List ℕ
+halfShown = from00To80 ++ (128 ∷ 96 ∷ 0 ∷ 1 ∷ 0 ∷ 0 ∷ 1 ∷ 64 ∷ [])
+
+-- no visible range
+abbrev pub allShown : List ℕ
+allShown = from00To80 ++ (0 ∷ [])
+
+-- ---- the number in the slot before, and the fraction, by their bits
+abbrev pub seven : Float
+seven = ofBits binary64 0x401C_0000_0000_0000
+
+abbrev pub half : Float
+half = ofBits binary64 0x3FE0_0000_0000_0000
+
+-- ---- the fraction
+abbrev pub PartIsTold : Type 0
+PartIsTold = FractionTold (visibleFractionOutcome halfShown 0 0) false true seven half 0
+
+-- the number's slot is left as it was
+abbrev pub WholeIsTold : Type 0
+WholeIsTold = FractionTold (visibleFractionOutcome allShown 0 0) true false seven seven 0
+
+-- no image at all: stop 1, and both slots are left
+abbrev pub FractionStopIsTold : Type 0
+FractionStopIsTold = FractionTold (visibleFractionOutcome [] 0 0) true true seven seven 1
+
+-- ---- the size: half of 5, rounded away from zero
+abbrev pub SizeIsTold : Type 0
+SizeIsTold = slot 7 (estimateVisibleSizeOutcome halfShown 0 0) ≡ 3
+
+abbrev pub RunSizeIsTold : Type 0
+RunSizeIsTold = slot 7 (estimateRunVisibleSizeOutcome halfShown 0) ≡ 3
+
+abbrev pub WholeSizeIsTold : Type 0
+WholeSizeIsTold = slot 7 (estimateVisibleSizeOutcome allShown 0 0) ≡ 5
+
+abbrev pub SizeStopIsReturned : Type 0
+SizeStopIsReturned = stopOf (estimateVisibleSizeOutcome [] 0 0) ≡ 1
+
+abbrev pub SizeStopIsTold : Type 0
+SizeStopIsTold = slot 7 (estimateVisibleSizeOutcome [] 0 0) ≡ 7
+
+-- the run at place 1 is not there
+abbrev pub RunSizeStopIsReturned : Type 0
+RunSizeStopIsReturned = stopOf (estimateRunVisibleSizeOutcome halfShown 1) ≡ 9
+
+abbrev pub RunSizeStopIsTold : Type 0
+RunSizeStopIsTold = slot 7 (estimateRunVisibleSizeOutcome halfShown 1) ≡ 7

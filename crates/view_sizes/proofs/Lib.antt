@@ -1,0 +1,4 @@
+pub mod Passed
+pub mod SizeExits
+pub mod ViewBytes
+pub mod SizeCallLaws

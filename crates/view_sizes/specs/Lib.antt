@@ -1,0 +1,3 @@
+pub mod SizeCalls
+pub mod Found
+pub mod SizeCallLaws

@@ -1,0 +1,15 @@
+pub mod Floats
+pub mod KeyNumbers
+pub mod Scales
+pub mod Lengths
+pub mod Fractions
+pub mod NumbersWithin
+pub mod Twice
+pub mod Rounding
+pub mod Products
+pub mod SizeExits
+pub mod SizeBounds
+pub mod Prefixes
+pub mod RangeExits
+pub mod KeyLaws
+pub mod Examples
