@@ -11,6 +11,7 @@ mod lookups;
 mod ours;
 mod ranges;
 mod shapes;
+mod sizes;
 mod table;
 
 use clock::Clock;
@@ -41,7 +42,7 @@ fn main() {
         if cfg!(debug_assertions) { "on" } else { "off" },
     );
     let passes = (0..PASSES).map(|_| measured(&clock));
-    let [mut rows, mut images, commits, lookups, against] =
+    let [mut rows, mut images, commits, lookups, against, sizes] =
         passes.reduce(least).expect("there is a pass");
 
     table::print("Keys and ranges", &["Rust, keys lent"], &rows);
@@ -54,15 +55,17 @@ fn main() {
         &[],
         &against,
     );
+    table::print("Visible sizes", &["decode", "call"], &sizes);
     images.extend(commits);
     table::print_by_size(&images, &shapes::SIZES);
     rows.extend(images);
     rows.extend(lookups);
+    rows.extend(sizes);
     table::print_above(&rows);
 }
 
 /// The rows of each table.
-type Rows = [Vec<Row>; 5];
+type Rows = [Vec<Row>; 6];
 
 fn measured(clock: &Clock) -> Rows {
     [
@@ -71,6 +74,7 @@ fn measured(clock: &Clock) -> Rows {
         commits::rows(clock),
         lookups::rows(clock),
         lookups::against_images(clock),
+        sizes::rows(clock),
     ]
 }
 

@@ -296,3 +296,34 @@ pub fn intersects_range(
     };
     answered(stop, is)
 }
+
+/// 1.0 where the table is shown whole, as the Rust has it.
+pub fn visible_fraction(image: &[u8], run: usize, view: usize) -> Checked<f64> {
+    let (mut part, mut fraction) = (false, 1.0);
+    let stop = unsafe {
+        bilqarush_visible_fraction(
+            image.as_ptr(),
+            image.len(),
+            run,
+            view,
+            &mut part,
+            &mut fraction,
+        )
+    };
+    answered(stop, if part { fraction } else { 1.0 })
+}
+
+pub fn estimate_visible_size(image: &[u8], run: usize, view: usize) -> Checked<u64> {
+    let mut size = 0;
+    let stop = unsafe {
+        bilqarush_estimate_visible_size(image.as_ptr(), image.len(), run, view, &mut size)
+    };
+    answered(stop, size)
+}
+
+pub fn estimate_run_visible_size(image: &[u8], run: usize) -> Checked<u64> {
+    let mut size = 0;
+    let stop =
+        unsafe { bilqarush_estimate_run_visible_size(image.as_ptr(), image.len(), run, &mut size) };
+    answered(stop, size)
+}

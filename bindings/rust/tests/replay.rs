@@ -360,6 +360,18 @@ fn intersects_record(image: &[u8], run: usize, view: usize, asked: &Asked) -> Ve
     made
 }
 
+/// By its bits, so that no other float agrees with it.
+fn shown_record(shown: VisibleFraction) -> Vec<u8> {
+    match shown {
+        VisibleFraction::Whole => vec![0],
+        VisibleFraction::Part(part) => [&[1], &part.to_bits().to_be_bytes()[..]].concat(),
+    }
+}
+
+fn size_record(size: u64) -> Vec<u8> {
+    size.to_be_bytes().to_vec()
+}
+
 fn lookup_record(held: &[u8], record: &Record, asked: &Asked) -> Vec<u8> {
     let Asked { number, key, range } = *asked;
     let (run, view) = (record.x, record.y);
@@ -384,6 +396,9 @@ fn lookup_record(held: &[u8], record: &Record, asked: &Asked) -> Vec<u8> {
             kept_record(held, range, part)
         }),
         10 => intersects_record(held, run, view, asked),
+        12 => outcome(visible_fraction(held, run, view), shown_record),
+        13 => outcome(estimate_visible_size(held, run, view), size_record),
+        14 => outcome(estimate_run_visible_size(held, run), size_record),
         call => panic!("call {call}"),
     }
 }
@@ -418,5 +433,5 @@ fn lookups() {
             }
         }
     }
-    assert_eq!(called, 4978);
+    assert_eq!(called, 7334);
 }

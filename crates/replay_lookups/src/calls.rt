@@ -1,4 +1,5 @@
 // The lookups of bilqarush, each made with a record's arguments and held to its answer.
+use crate::sizes;
 use bilqarush::Counted;
 use bilqarush::Covered;
 use bilqarush::Found;
@@ -14,7 +15,7 @@ use replay::kind;
 use replay::piece::Fields;
 
 // A number of 64 bits.
-fn word(answer: &[u8], place: Place, n: usize) -> Place {
+pub fn word(answer: &[u8], place: Place, n: usize) -> Place {
     let first = answer::number(answer, place, n / 281474976710656);
     let second = answer::number(answer, first, n / 4294967296 % 65536);
     let third = answer::number(answer, second, n / 65536 % 65536);
@@ -171,6 +172,7 @@ pub fn agrees<'a>(
             answer,
             bilqarush::intersects_range(held, f.x, f.y, mark, key, range),
         ),
-        0 | 11..=255 => false,
+        12..=14 => sizes::agrees(f, held, answer),
+        0 | 11 | 15..=255 => false,
     }
 }

@@ -1,7 +1,8 @@
-// Replays recorded answers to the lookups. A record of standard input changes the buffer that is held, an index or an image,
-// or it is a call on it with the answer that the Rust and a second reading of document 01 have; the call is made here. A line
-// for each call and for each stop says how many of its answers were the recorded bytes, whole.
+// Replays recorded answers to the lookups and to the calls on visible sizes. A record of standard input changes the buffer that is
+// held, an index or an image, or it is a call on it with the answer that the Rust and a second reading of document 01 have;
+// the call is made here. A line for each call and for each stop says how many of its answers were the recorded bytes, whole.
 mod calls;
+mod sizes;
 
 use replay::input;
 use replay::piece;
@@ -11,11 +12,11 @@ use replay::piece::Piece;
 use replay::tally;
 ghost use Prim.Native.Nat.{_<_};
 
-// The calls are 1 to 10, and an unknown one is counted as 0.
+// The calls are 1 to 10 and 12 to 14, and an unknown one is counted as 0.
 fn call_slot(call: u8) -> usize
-    ensures { λ r. ⌜ r < 11 ⌝ }
+    ensures { λ r. ⌜ r < 15 ⌝ }
 {
-    if call < 11 {
+    if call < 15 {
         return call as usize;
     }
     0
@@ -23,12 +24,12 @@ fn call_slot(call: u8) -> usize
 
 // Where records are counted by their stop, 0 if none.
 fn stop_slot(stop: u8) -> usize
-    ensures { λ r. ⌜ r < 29 ⌝ }
+    ensures { λ r. ⌜ r < 33 ⌝ }
 {
     if stop < 17 {
-        return 11 + stop as usize;
+        return 15 + stop as usize;
     }
-    28
+    32
 }
 
 // What a record did.
@@ -164,10 +165,13 @@ fn print_calls(counts: &[u64]) {
     tally::print_call(b"compacted_intersection", counts, 8);
     tally::print_call(b"calculate_view_range", counts, 9);
     tally::print_call(b"intersects_range", counts, 10);
+    tally::print_call(b"visible_fraction", counts, 12);
+    tally::print_call(b"estimate_visible_size", counts, 13);
+    tally::print_call(b"estimate_run_visible_size", counts, 14);
 }
 
 fn print_stops(counts: &[u64]) {
-    tally::print_call(b"no stop", counts, 11);
+    tally::print_call(b"no stop", counts, 15);
     print_stop(counts, 1);
     print_stop(counts, 2);
     print_stop(counts, 3);
@@ -181,7 +185,7 @@ fn print_stops(counts: &[u64]) {
 fn main() {
     let mut buffer = [0u8; 131072];
     let mut body = [0u8; 8192];
-    let mut counts = [0u64; 58];
+    let mut counts = [0u64; 66];
     let left = replay_all(&mut buffer, &mut body, &mut counts);
     print_calls(&counts);
     print_stops(&counts);

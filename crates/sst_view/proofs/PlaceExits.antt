@@ -139,7 +139,7 @@ module _ (s : List ℕ) (r : RunSpan) (place : ℕ) (i : RunInside s r) where
 pub ruleset in-run-exits = (in-run-from, not-in-run, before-there, view-there, in-run)
 
 -- ---- view_in_image
-view-by-run : (i : Image) (run-place place : ℕ) → viewAt i run-place place ≡ outcome.andThen (viewsAt i run-place) (λ vs. placed (index-at vs place))
+pub view-by-run : (i : Image) (run-place place : ℕ) → viewAt i run-place place ≡ outcome.andThen (viewsAt i run-place) (λ vs. placed (index-at vs place))
 unfolding viewAt
 view-by-run i run-place place = go (index-at i run-place)
   where

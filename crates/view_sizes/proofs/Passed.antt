@@ -11,9 +11,10 @@ use Rattle.format.specs.Whole.{whole}
 use Rattle.records.specs.Layouts.{image}
 use Rattle.records.specs.Values.{View, Run, Image}
 use Rattle.manifest.specs.Checks.{all, sizePasses, checked, imageChecks, imageGiven}
-use Rattle.db_state.specs.Places.{at, placed, viewAt, viewGiven}
+use Rattle.db_state.specs.Places.{at, placed, viewGiven}
 use Rattle.db_state.specs.LookupCalls.{viewsAt}
 use Rattle.db_state.proofs.RunLookups.{at-passes}
+use Rattle.sst_view.proofs.PlaceExits.{view-by-run}
 
 no-answer : {A X : Type 0} {k : ℕ} {a : A} → _≡_ {A = Outcome A} (stop k) (answer a) → X
 no-answer e = absurd (let z : _≡_ {A = ℕ} 0 1 = cc in omega arith)
@@ -68,14 +69,6 @@ run-sized i run vs h e =
     rw (← z) (at-passes (λ (r : Run). all (λ v. sizePasses (v .table)) (r .views)) i run (c .value) h (is-there (at i run) (c .first)))
 
 -- ---- the view at a place
-pub view-by-run : (i : Image) (run place : ℕ) → viewAt i run place ≡ andThen (viewsAt i run) (λ vs. placed (at vs place))
-unfolding viewAt
-view-by-run i run place = go (at i run)
-  where
-    go : (o : Option Run) → andThen (placed o) (λ r. placed (at (r .views) place)) ≡ andThen (andThen (placed o) (λ r. answer (r .views))) (λ vs. placed (at vs place))
-    go none = refl
-    go (some r) = refl
-
 -- it is one of the views of a run of an accepted image
 pub record ViewCalled (l : List ℕ) (run place : ℕ) (v : View) : Type 0 where
   pub image : Image

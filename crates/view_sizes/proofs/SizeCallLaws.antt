@@ -22,13 +22,14 @@ use Rattle.manifest.specs.Checks.{all, sizePasses, imageGiven}
 use Rattle.manifest.proofs.ReadKeys.{ViewBytes, own-bytes, effective-bytes}
 use Rattle.db_state.specs.Places.{at, viewGiven}
 use Rattle.db_state.specs.LookupCalls.{viewsAt}
+use Rattle.sst_view.proofs.PlaceExits.{view-by-run}
 use Rattle.visible_size.specs.Numbers.{InPart}
 use Rattle.visible_size.specs.Sizes.{fractionWithLast, visibleFraction, rawSize, sizeWithin, estimateVisibleSize, estimateRunVisibleSize}
 use Rattle.visible_size.proofs.NumbersWithin.{parts-lie-between}
 use Rattle.visible_size.proofs.SizeBounds.{view-size-is-at-least-one, view-size-is-at-most-raw}
 use Rattle.view_sizes.specs.SizeCalls.{visibleFractionOutcome, estimateVisibleSizeOutcome, estimateRunVisibleSizeOutcome}
 use Rattle.view_sizes.specs.SizeCallLaws.{PartsAnsweredLieBetween, SizeAnsweredIsAtMostRaw, SizeAnsweredIsAtLeastOne, RunSizeDoesNotWrap, summed, RunSizeIsTheSumOfItsViews}
-use Rattle.view_sizes.proofs.Passed.{came, view-by-run, view-called, view-sized}
+use Rattle.view_sizes.proofs.Passed.{came, view-called, view-sized}
 use Rattle.view_sizes.proofs.SizeExits.{one-or-raw}
 use Rattle.view_sizes.proofs.ViewBytes.{at-all, run-of-bytes}
 

@@ -1,10 +1,10 @@
-//! What the lookups answer. Values are the originals', and asserted to be those of `plain` and of
+//! What the lookups answer, and the calls on visible sizes (`sizes`). Values are the originals', and asserted to be those of `plain` and of
 //! document 01's rule for equal bounds; with no partitions, where the originals panic, they are
 //! document 01's.
 use super::images::at;
-use super::{paper, plain};
+use super::{paper, plain, sizes};
 use crate::checks::{key_places, Checked, Placed, ReadImage, ReadIndex};
-use crate::{key_of, Answer, Bound, Key, Range, Run, Source, Sourced};
+use crate::{key_of, Answer, Bound, Key, Range, Run, Source, Sourced, View};
 
 pub const PARTITION_POINT: u8 = 1;
 pub const FIRST_INCLUDING: u8 = 2;
@@ -16,6 +16,10 @@ pub const OVERLAPS_RANGE: u8 = 7;
 pub const COMPACTED_INTERSECTION: u8 = 8;
 pub const CALCULATE_VIEW_RANGE: u8 = 9;
 pub const INTERSECTS_RANGE: u8 = 10;
+// 11 is no call: in the records it is a piece of a buffer.
+pub const VISIBLE_FRACTION: u8 = 12;
+pub const ESTIMATE_VISIBLE_SIZE: u8 = 13;
+pub const ESTIMATE_RUN_VISIBLE_SIZE: u8 = 14;
 
 /// What a call asks of an index or an image. What it does not have is 0 or empty.
 #[derive(Clone, Debug, Default, PartialEq, Eq, Hash)]
@@ -35,6 +39,11 @@ pub struct Asked {
 impl Asked {
     pub fn is_of_index(&self) -> bool {
         self.call <= PARTITIONS_COVERING
+    }
+
+    /// Whether it asks for a visible fraction or size: of a place, and of nothing else.
+    pub fn is_of_sizes(&self) -> bool {
+        self.call >= VISIBLE_FRACTION
     }
 }
 
@@ -62,6 +71,10 @@ pub enum Value {
     Places(usize, usize),
     Is(bool),
     Joint(Option<Joint>),
+    /// The bits of a part's fraction; none if the table is shown whole.
+    Shown(Option<u64>),
+    /// A size.
+    Bytes(u64),
 }
 
 /// A buffer as the calls on it read it.
@@ -84,6 +97,15 @@ impl Read {
             Read::Index(index) => of_index(index.as_ref().map_err(|stop| *stop)?, asked),
             Read::Image(image) => of_image(image.as_ref().map_err(|stop| *stop)?, asked),
         }
+    }
+
+    /// The view at the places that are asked for, if there is one.
+    pub fn view(&self, asked: &Asked) -> Option<&View> {
+        let Read::Image(Ok(image)) = self else {
+            return None;
+        };
+        let run = at(&image.runs, asked.run)?;
+        at(&run.views, asked.view).map(|placed| &placed.view)
     }
 }
 
@@ -140,6 +162,9 @@ fn of_index(index: &ReadIndex, asked: &Asked) -> Checked<Value> {
 }
 
 fn of_image(image: &ReadImage, asked: &Asked) -> Checked<Value> {
+    if asked.is_of_sizes() {
+        return sizes::value(image, asked);
+    }
     let (end, range) = if asked.call == INTERSECTS_RANGE {
         image.end_and_range(asked.number, &asked.key, &asked.range)?
     } else {

@@ -5,3 +5,5 @@ pub mod lookups;
 pub mod paper;
 pub mod plain;
 pub mod ranges;
+pub mod sizes;
+pub mod steps;

@@ -1,16 +1,17 @@
-//! Writes test records for a port of the lookups to standard output: an index or an image, and for
-//! each lookup in it what is asked with the answer or the number of the check that stops it.
+//! Writes test records for a port of the lookups and of the calls on visible sizes to standard output: an
+//! index or an image, and for each call on it what is asked with the answer or the number of the check
+//! that stops it.
 //!
 //! A file is records one after the other, numbers big-endian. A record's head has 20 bytes: the call
 //! (1), x and y (8 each, 0 where unused), and the length of what follows (3). There is one held
-//! buffer, empty at first: an index for the calls 1 to 5, an image for 6 to 10.
+//! buffer, empty at first: an index for the calls 1 to 5, an image for the others.
 //!
 //! - 0: the first x bytes of the buffer stay, and what follows comes after them;
 //! - 11: the buffer gets x bytes, each repeating the one y before it; nothing follows;
-//! - 1 to 10: a lookup, in the order of `answers::lookups`. x is the place of the run, y that of the
-//!   view. What follows is 1 byte: the test of 1 (0 below, 1 at or below) or the kind of 10's end
+//! - 1 to 10, 12 to 14: a call, in the order of `answers::lookups`. x is the place of the run, y that of
+//!   the view. What follows is 1 byte: the test of 1 (0 below, 1 at or below) or the kind of 10's end
 //!   bound, else 0; the lengths of a key and of a range image, 2 bytes each; the key (of 1 to 4, or
-//!   the end bound's of 10), the range image (of 5 to 10); then the answer.
+//!   the end bound's of 10), the range image (of 5 to 10; none of 12 to 14); then the answer.
 //!
 //! The answer's first byte is the stop, 0 if none, and after a stop nothing follows. After the 0:
 //!
@@ -21,11 +22,15 @@
 //! - 8 and 9: 0 for no range; or 1, then the start and the end as the C call writes them: kind (1),
 //!   slice (1: 1 the image, 2 the range), place and length of the key (8 each). For an unbounded
 //!   bound place and length stand for nothing: both are 0 here, and the program that replays puts 0
-//!   for its own too, so that the whole answer is compared.
+//!   for its own too, so that the whole answer is compared;
+//! - 12: 0 if the table is shown whole; or 1 and the bits of the fraction, 8 bytes;
+//! - 13 and 14: the size, 8 bytes.
 use oracle::answers::lookups::{Asked, Joint, Read, Value};
 use oracle::checks::Checked;
 use oracle::inputs::lookups as inputs;
 use oracle::inputs::lookups::{Inputs, Takes};
+use oracle::inputs::sizes;
+use oracle::inputs::sizes::every::{long_tails, short_tails, views_from};
 use oracle::inputs::Chance;
 use oracle::records::{arguments, pieces, record, Piece};
 use oracle::{key_of, kind_of};
@@ -64,6 +69,9 @@ fn answer(buffer: &[u8], asked: &Asked, value: &Checked<Value>) -> Vec<u8> {
         Ok(Value::Found(Some(place))) => [vec![1], number(place)].concat(),
         Ok(Value::Places(start, end)) => [number(start), number(end)].concat(),
         Ok(Value::Is(is)) => vec![u8::from(*is)],
+        Ok(Value::Shown(None)) => vec![0],
+        Ok(Value::Shown(Some(bits))) => [&[1], &bits.to_be_bytes()[..]].concat(),
+        Ok(Value::Bytes(size)) => size.to_be_bytes().to_vec(),
         Ok(Value::Joint(Some(joint))) => joint_answer(buffer, asked, joint),
     };
     [vec![0], value].concat()
@@ -140,6 +148,15 @@ impl<W: Write> Takes for Output<W> {
     }
 }
 
+/// Every view over few keys: in a small run some of each class.
+fn every_view(out: &mut Inputs) {
+    for tails in [short_tails(false), long_tails(false)] {
+        for first in &tails {
+            views_from(first, &tails, out);
+        }
+    }
+}
+
 fn write(small: bool, seed: u64, count: usize) {
     let mut out = Output {
         to: std::io::BufWriter::new(std::io::stdout().lock()),
@@ -149,7 +166,7 @@ fn write(small: bool, seed: u64, count: usize) {
         bytes: 0,
     };
     let mut classes = HashMap::new();
-    for part in 1..=11 {
+    for part in 1..=15 {
         let before = (out.records(), out.bytes);
         let mut made = Inputs {
             to: &mut out,
@@ -169,9 +186,24 @@ fn write(small: bool, seed: u64, count: usize) {
             8 => inputs::faults_of_indexes(&mut made),
             9 => inputs::faults_of_images(&mut made),
             10 => inputs::ceilings(&mut made),
-            _ => {
+            11 => {
                 inputs::random_indexes(count, &mut made);
                 inputs::random_images(count, &mut made);
+            }
+            12 => {
+                sizes::from_the_papers(&mut made);
+                every_view(&mut made);
+            }
+            13 => sizes::of_every_kind(&mut made),
+            14 => sizes::ceilings(&mut made),
+            _ => {
+                let (images, runs) = match small {
+                    true => (4 * count, count / 10),
+                    false => (count, count / 50),
+                };
+                sizes::random(images, &mut made);
+                sizes::of_random(count, &mut made);
+                sizes::long_runs(runs, &mut made);
             }
         }
         classes = made.classes;

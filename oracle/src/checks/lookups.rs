@@ -49,6 +49,11 @@ impl ReadImage {
         Ok(ReadImage { runs, later })
     }
 
+    /// Where nothing is asked for but places, which are looked up after all of these checks.
+    pub fn passed(&self) -> Checked<()> {
+        self.later
+    }
+
     /// The range that is asked for. Check 4 covers it together with the visible ranges, so that
     /// nothing of 5 to 7 comes before it; places are looked up after all of these.
     pub fn range(&self, range: &[u8]) -> Checked<Range> {

@@ -1,5 +1,5 @@
-//! partitioned_keyspace.rs over the first keys of an index, and db_state.rs's lookups on the views of
-//! an image. What is looked in is decoded apart, so that a call can be timed without it.
+//! partitioned_keyspace.rs over the first keys of an index, and db_state.rs's lookups and visible sizes
+//! on the views of an image. What is looked in is decoded apart, so that a call can be timed without it.
 use super::decode::{self, whole_bounds, Fields};
 use super::ranges::Sides;
 use super::Checked;
@@ -143,6 +143,19 @@ impl Runs {
         let end = decode::bound(end_kind, end)?;
         let (range, _) = asked(range)?;
         Ok(self.view(run, view)?.intersects_range(end, &range))
+    }
+
+    /// 1.0 where the table is shown whole.
+    pub fn visible_fraction(&self, run: usize, view: usize) -> Checked<f64> {
+        Ok(access::visible_fraction(self.view(run, view)?))
+    }
+
+    pub fn estimate_visible_size(&self, run: usize, view: usize) -> Checked<u64> {
+        Ok(self.view(run, view)?.estimate_visible_size())
+    }
+
+    pub fn estimate_run_visible_size(&self, run: usize) -> Checked<u64> {
+        Ok(self.run(run)?.estimate_visible_size())
     }
 
     fn sides(&self, asked: usize) -> Sides {

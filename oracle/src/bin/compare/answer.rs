@@ -50,6 +50,10 @@ pub enum Answer {
     Number(usize),
     Found(Option<usize>),
     Places(usize, usize),
+    /// The bits of a part's fraction; none if the table is shown whole.
+    Shown(Option<u64>),
+    /// A size.
+    Size(u64),
     Wrote(Bytes),
 }
 
@@ -66,6 +70,9 @@ pub fn told(expected: &Expected) -> String {
         Ok(Answer::Found(None)) => "not found".into(),
         Ok(Answer::Found(Some(place))) => format!("found {place}"),
         Ok(Answer::Places(start, end)) => format!("{start}..{end}"),
+        Ok(Answer::Shown(None)) => "whole".into(),
+        Ok(Answer::Shown(Some(bits))) => told_part(*bits),
+        Ok(Answer::Size(size)) => format!("{size}"),
         Ok(Answer::Wrote(Bytes { bytes, open })) => {
             let mut text = format!("{} bytes: {}", bytes.len(), hexadecimal(bytes));
             for open in open {
@@ -74,6 +81,11 @@ pub fn told(expected: &Expected) -> String {
             text
         }
     }
+}
+
+/// A fraction by its bits, and as a number.
+pub fn told_part(bits: u64) -> String {
+    format!("part {bits:016x} ({:e})", f64::from_bits(bits))
 }
 
 pub fn expected(question: &Question) -> Expected {
@@ -162,6 +174,8 @@ pub fn expected_lookup(known: &Checked<lookups::Value>, question: &Question) -> 
         lookups::Value::Found(found) => Ok(Answer::Found(*found)),
         lookups::Value::Places(start, end) => Ok(Answer::Places(*start, *end)),
         lookups::Value::Is(is) => Ok(Answer::Is(*is)),
+        lookups::Value::Shown(bits) => Ok(Answer::Shown(*bits)),
+        lookups::Value::Bytes(size) => Ok(Answer::Size(*size)),
         lookups::Value::Joint(None) => fits(plain(vec![0]), question.room),
         lookups::Value::Joint(Some(joint)) => fits(supplied(joint), question.room),
     }

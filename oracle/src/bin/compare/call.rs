@@ -1,6 +1,6 @@
 //! The public calls, and what they are asked.
 use oracle::answers::commits::Case;
-use oracle::answers::lookups::Asked;
+use oracle::answers::lookups::{Asked, VISIBLE_FRACTION};
 use oracle::answers::ranges::{self, Input};
 
 #[derive(Clone, Copy, Debug, PartialEq, Eq, PartialOrd, Ord)]
@@ -30,10 +30,13 @@ pub enum Call {
     CompactedIntersection,
     CalculateViewRange,
     IntersectsRange,
+    VisibleFraction,
+    EstimateVisibleSize,
+    EstimateRunVisibleSize,
 }
 
 impl Call {
-    pub const ALL: [Call; 25] = [
+    pub const ALL: [Call; 28] = [
         Call::Compare,
         Call::CmpBound,
         Call::NonEmpty,
@@ -59,6 +62,9 @@ impl Call {
         Call::CompactedIntersection,
         Call::CalculateViewRange,
         Call::IntersectsRange,
+        Call::VisibleFraction,
+        Call::EstimateVisibleSize,
+        Call::EstimateRunVisibleSize,
     ];
 
     pub fn name(self) -> &'static str {
@@ -88,6 +94,9 @@ impl Call {
             Call::CompactedIntersection => "compacted_intersection",
             Call::CalculateViewRange => "calculate_view_range",
             Call::IntersectsRange => "intersects_range",
+            Call::VisibleFraction => "visible_fraction",
+            Call::EstimateVisibleSize => "estimate_visible_size",
+            Call::EstimateRunVisibleSize => "estimate_run_visible_size",
         }
     }
 
@@ -95,15 +104,26 @@ impl Call {
         self < Call::CheckImage
     }
 
-    /// A lookup by its number, from 1 on.
+    /// A lookup by its number: from 1 on, and from 12 on a call on visible sizes.
     pub fn of_lookup(number: u8) -> Call {
-        Call::ALL[Call::PartitionPoint as usize + usize::from(number) - 1]
+        let place = match number {
+            VISIBLE_FRACTION.. => Call::VisibleFraction as u8 + (number - VISIBLE_FRACTION),
+            _ => Call::Commit as u8 + number,
+        };
+        Call::ALL[usize::from(place)]
     }
 
     /// The number of a lookup.
     pub fn lookup(self) -> Option<u8> {
-        let before = Call::Commit as u8;
-        (self > Call::Commit).then(|| self as u8 - before)
+        if self.is_of_sizes() {
+            return Some(VISIBLE_FRACTION + (self as u8 - Call::VisibleFraction as u8));
+        }
+        (self > Call::Commit).then(|| self as u8 - Call::Commit as u8)
+    }
+
+    /// Whether it asks for a visible fraction or size.
+    pub fn is_of_sizes(self) -> bool {
+        self >= Call::VisibleFraction
     }
 
     pub fn is_in_indexes(self) -> bool {
@@ -142,6 +162,7 @@ impl Call {
             Call::PartitionsCoveringRange => &["index", "range"],
             Call::IntersectsRange => &["image", "range", "end"],
             call if call.is_in_indexes() => &["index", "key"],
+            call if call.is_of_sizes() => &["image"],
             call if call > Call::Commit => &["image", "range"],
             _ => &["a", "b"],
         }
@@ -303,7 +324,7 @@ impl std::fmt::Display for Question {
                 };
                 writeln!(to, "test      {test}")?;
             }
-            Call::TableIdxCoveringRange | Call::OverlapsRange => {
+            Call::TableIdxCoveringRange | Call::OverlapsRange | Call::EstimateRunVisibleSize => {
                 writeln!(to, "place     run {}", self.x)?;
             }
             Call::IntersectsRange => {
@@ -312,7 +333,9 @@ impl std::fmt::Display for Question {
             }
             Call::CompactedEffectiveRange
             | Call::CompactedIntersection
-            | Call::CalculateViewRange => {
+            | Call::CalculateViewRange
+            | Call::VisibleFraction
+            | Call::EstimateVisibleSize => {
                 writeln!(to, "places    run {}, view {}", self.x, self.y)?;
             }
             _ => {}

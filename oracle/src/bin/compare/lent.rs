@@ -1,6 +1,6 @@
 //! Asks the proved library. Every lent byte, and bytes on both sides of the lent buffer, hold a
 //! pattern that differs from call to call, so that a change of any of them is seen.
-use crate::answer::{Answer, Expected};
+use crate::answer::{told_part, Answer, Expected};
 use crate::call::{Call, Question};
 use crate::wrong::Wrong;
 use bilqarush::raw::*;
@@ -24,11 +24,13 @@ pub struct Lent {
     pub room: usize,
     pub stop: u8,
     pub order: i8,
-    /// Also `found`.
+    /// Also `found` and `part`.
     pub is: u8,
     /// Also `count`, `partition` and `start`.
     pub written: usize,
     pub end: usize,
+    /// Also the bits of `fraction`.
+    pub size: u64,
 }
 
 /// The slots of a call.
@@ -38,6 +40,7 @@ struct Slots {
     is: u8,
     written: usize,
     end: usize,
+    size: u64,
 }
 
 impl Lent {
@@ -59,6 +62,7 @@ impl Lent {
             is: 0,
             written: 0,
             end: 0,
+            size: 0,
         }
     }
 
@@ -76,7 +80,7 @@ impl Lent {
         &self.noise[at..at + self.room + 3 * EDGE]
     }
 
-    /// The slots before the call. A `bool` is 0 or 1.
+    /// The slots before the call. A `bool` is 0 or 1, and the bits of a fraction are those of a number.
     fn slots_before(&self) -> Slots {
         let mark = self.mark;
         Slots {
@@ -84,6 +88,7 @@ impl Lent {
             is: (mark >> 24) as u8 & 1,
             written: mark as usize,
             end: mark.rotate_left(29) as usize,
+            size: mark.rotate_left(43) & !(1 << 62),
         }
     }
 
@@ -98,6 +103,9 @@ impl Lent {
             Ok(Answer::Found(None)) => slots.is = 0,
             Ok(Answer::Found(Some(place))) => (slots.is, slots.written) = (1, *place),
             Ok(Answer::Places(start, end)) => (slots.written, slots.end) = (*start, *end),
+            Ok(Answer::Shown(None)) => slots.is = 0,
+            Ok(Answer::Shown(Some(bits))) => (slots.is, slots.size) = (1, *bits),
+            Ok(Answer::Size(size)) => slots.size = *size,
             Ok(Answer::Wrote(bytes)) => slots.written = bytes.bytes.len(),
         }
         slots
@@ -109,6 +117,7 @@ impl Lent {
             is: self.is,
             written: self.written,
             end: self.end,
+            size: self.size,
         }
     }
 
@@ -130,6 +139,7 @@ impl Lent {
         let slots = self.slots_before();
         (self.order, self.is) = (slots.order, slots.is);
         (self.written, self.end) = (slots.written, slots.end);
+        self.size = slots.size;
         self.call(question);
         if let Some(wrong) = self.wrong {
             wrong.apply(question, self);
@@ -148,6 +158,7 @@ impl Lent {
         let (order, written, end) = (&mut self.order, &mut self.written, &mut self.end);
         // A byte, so that the comparison sees every bit of the `bool`.
         let is = std::ptr::from_mut(&mut self.is).cast();
+        let size = std::ptr::from_mut(&mut self.size);
         // SAFETY: each pointer is valid for its length, and the slots are this struct's.
         self.stop = unsafe {
             match question.call {
@@ -203,6 +214,16 @@ impl Lent {
                 ),
                 Call::IntersectsRange => {
                     bilqarush_intersects_range(a, a_len, run, view, number, c, c_len, b, b_len, is)
+                }
+                // The bits, so that no fraction is another that equals it.
+                Call::VisibleFraction => {
+                    bilqarush_visible_fraction(a, a_len, run, view, is, size.cast())
+                }
+                Call::EstimateVisibleSize => {
+                    bilqarush_estimate_visible_size(a, a_len, run, view, size)
+                }
+                Call::EstimateRunVisibleSize => {
+                    bilqarush_estimate_run_visible_size(a, a_len, run, size)
                 }
             }
         };
@@ -285,6 +306,11 @@ impl Lent {
             Call::PartitionsCoveringRange | Call::TableIdxCoveringRange => {
                 format!("{}..{}", self.written, self.end)
             }
+            Call::VisibleFraction => match self.is {
+                0 => format!("whole (fraction left as {:016x})", self.size),
+                _ => told_part(self.size),
+            },
+            Call::EstimateVisibleSize | Call::EstimateRunVisibleSize => format!("{}", self.size),
             _ => {
                 let shown = &self.out()[..self.written.min(self.room)];
                 let shown = crate::call::hexadecimal(shown);

@@ -1,6 +1,6 @@
 //! The comparison of the lookups in indexes and images.
 use crate::answer::{expected_lookup, Answer};
-use crate::call::{mixed, Call, Question};
+use crate::call::{mark, mixed, Call, Question};
 use crate::comparison::Comparison;
 use crate::ranges::{rooms, within};
 use crate::shards::Shards;
@@ -13,7 +13,7 @@ use oracle::inputs::lookups::every::{
 };
 use oracle::inputs::lookups::{self as inputs, near, Inputs, Takes};
 use oracle::inputs::{small_keys, Chance};
-use oracle::{Key, View};
+use oracle::{key_of, kind_of, Key, View};
 use std::collections::HashMap;
 use std::sync::Arc;
 
@@ -45,6 +45,10 @@ fn is_wanted(to: &Comparison, asked: &Asked) -> bool {
 /// The answer with room enough is worked out once, and asked for with several rooms.
 fn ask(to: &mut Comparison, read: &Read, mut question: Question, asked: &Asked) {
     let known: Checked<Value> = to.sure(&question, || read.value(asked));
+    if let (Ok(Value::Shown(shown)), Some(view)) = (&known, read.view(asked)) {
+        to.tally.views.push(mark_of(view));
+        to.tally.parts += u64::from(shown.is_some());
+    }
     if !question.call.writes() {
         let expected = expected_lookup(&known, &question);
         return to.compare(&question, &expected);
@@ -59,7 +63,22 @@ fn ask(to: &mut Comparison, read: &Read, mut question: Question, asked: &Asked) 
     }
 }
 
-fn made(to: &mut Comparison, chance: Chance, small: bool, make: impl FnOnce(&mut Inputs)) {
+/// A number that tells views apart by their keys and raw sizes.
+fn mark_of(view: &View) -> u64 {
+    let (table, bytes) = (&view.table, |key: Option<&Key>| match key {
+        Some(key) => mark(1, key),
+        None => 0,
+    });
+    let mut marked = mixed(table.index_offset + table.index_len, mark(0, &table.first));
+    marked = mixed(marked, bytes(table.last.as_ref()));
+    let bounds = view.visible.iter().flat_map(|range| [&range.0, &range.1]);
+    bounds.fold(marked, |marked, bound| {
+        let kind = u64::from(kind_of(bound));
+        mixed(mixed(marked, kind), bytes(key_of(bound)))
+    })
+}
+
+pub fn made(to: &mut Comparison, chance: Chance, small: bool, make: impl FnOnce(&mut Inputs)) {
     make(&mut Inputs {
         to: &mut Lookups(to),
         small,

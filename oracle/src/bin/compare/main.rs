@@ -16,6 +16,7 @@ mod report;
 mod selftest;
 mod shards;
 mod shrink;
+mod sizes;
 mod tally;
 mod wrong;
 
@@ -30,6 +31,7 @@ fn compare(seed: u64, full: bool) -> ExitCode {
     images::add(&mut shards, full);
     ranges::add(&mut shards, full);
     lookups::add(&mut shards, full);
+    sizes::add(&mut shards, full);
     let (tally, difference) = shards.run(None, true);
     println!("seed {seed}, {}", if full { "full" } else { "quick" });
     tally.print();

@@ -8,7 +8,7 @@ use crate::lists::{committed_alone, list_fault};
 use crate::shards::Shards;
 use crate::shrink::smallest;
 use crate::wrong::{Kind, When, Wrong, KINDS};
-use crate::{commits, images, lookups, ranges};
+use crate::{commits, images, lookups, ranges, sizes};
 use oracle::answers::commits::Case;
 use oracle::guarded;
 use std::panic::{catch_unwind, AssertUnwindSafe};
@@ -20,6 +20,7 @@ fn shards_of(call: Call, seed: u64) -> Shards {
     match call {
         Call::Commit => commits::add(&mut shards, false),
         call if call.is_on_ranges() => ranges::add(&mut shards, false),
+        call if call.is_of_sizes() => sizes::add(&mut shards, false),
         call if call.lookup().is_some() => lookups::add(&mut shards, false),
         _ => images::add(&mut shards, false),
     }
@@ -78,6 +79,7 @@ fn single_inputs(seed: u64) -> Vec<(Call, bool)> {
         Call::CheckImage,
         Call::Commit,
         Call::PartitionPoint,
+        Call::VisibleFraction,
     ] {
         let (tally, _) = shards_of(group, seed).run(None, false);
         found.extend(tally.picked.into_iter().map(|(call, mark)| {
@@ -128,6 +130,8 @@ pub fn run(seed: u64) -> bool {
         (Call::PartitionPoint, 23, 24),
         (Call::PartitionsCoveringRange, 23, 24),
         (Call::CompactedIntersection, 128, 130),
+        (Call::VisibleFraction, 68, 70),
+        (Call::EstimateRunVisibleSize, 128, 130),
     ] {
         let wrong = Wrong {
             call,

@@ -6,11 +6,17 @@ use std::collections::BTreeMap;
 pub struct Tally {
     /// Of each call how many were answered, and how many refused by each stop.
     calls: BTreeMap<Call, [u64; 17]>,
-    /// Marks of the inputs of range calls, of the images, of the commits and of the lookups.
+    /// Marks of the inputs of range calls, of the images, of the commits, of the lookups and of the
+    /// calls on visible sizes.
     pub ranges: Vec<u64>,
     pub images: Vec<u64>,
     pub commits: Vec<u64>,
     pub lookups: Vec<u64>,
+    pub sizes: Vec<u64>,
+    /// Marks of the views whose fractions were compared, whatever image they are in.
+    pub views: Vec<u64>,
+    /// How many of them are shown in part.
+    pub parts: u64,
     pub listed: u64,
     /// Lists, and those of them of whose last accepted record demand 3 speaks.
     pub lists: u64,
@@ -47,6 +53,9 @@ impl Tally {
         self.images.append(&mut more.images);
         self.commits.append(&mut more.commits);
         self.lookups.append(&mut more.lookups);
+        self.sizes.append(&mut more.sizes);
+        self.views.append(&mut more.views);
+        self.parts += more.parts;
         self.listed += more.listed;
         self.lists += more.lists;
         self.held += more.held;
@@ -81,6 +90,13 @@ impl Tally {
         );
         let (all, lookups) = (self.lookups.len(), distinct(&mut self.lookups));
         println!("lookups: {all} inputs, {lookups} of them distinct");
+        let (all, sizes) = (self.sizes.len(), distinct(&mut self.sizes));
+        println!("visible sizes: {all} inputs, {sizes} of them distinct");
+        let (all, views) = (self.views.len(), distinct(&mut self.views));
+        println!(
+            "visible fractions of {all} views, {views} of them distinct by keys and raw size; {} are parts",
+            self.parts
+        );
     }
 
     fn ranges_all(&self) -> u64 {

@@ -23,7 +23,7 @@ pub enum Kind {
     AfterStop,
     /// A number slot after a stop.
     Slot,
-    /// The slot of a partition, though none is found.
+    /// The slot of a partition, though none is found; that of a fraction, though the table is shown whole.
     Partition,
     /// The slice that supplies a bound.
     Slice,
@@ -83,7 +83,9 @@ impl Wrong {
             Kind::Slice | Kind::Place => self.call.joins(),
             Kind::Partition => matches!(
                 self.call,
-                Call::FirstPartitionIncludingKey | Call::LastPartitionIncludingKey
+                Call::FirstPartitionIncludingKey
+                    | Call::LastPartitionIncludingKey
+                    | Call::VisibleFraction
             ),
             _ => true,
         }
@@ -126,8 +128,12 @@ impl Wrong {
                 lent.is ^= 1;
                 lent.written ^= 1;
                 lent.end ^= 1;
+                lent.size ^= 1;
             }
-            Kind::Partition if !stopped && lent.is == 0 => lent.written ^= 1,
+            Kind::Partition if !stopped && lent.is == 0 => {
+                lent.written ^= 1;
+                lent.size ^= 1;
+            }
             // Both bounds' slices; of the start's place the last byte, if it has a key.
             Kind::Slice if !stopped && lent.written == 37 => {
                 lent.memory[from + 2] ^= 3;
@@ -155,6 +161,9 @@ impl Wrong {
             Call::PartitionPoint | Call::FirstPartitionIncludingOrAfterKey => lent.written ^= 1,
             Call::FirstPartitionIncludingKey | Call::LastPartitionIncludingKey => lent.is ^= 1,
             Call::PartitionsCoveringRange | Call::TableIdxCoveringRange => lent.end ^= 1,
+            // The last bit of a part's fraction; whole told as a part of 1.0.
+            Call::VisibleFraction if lent.is == 0 => (lent.is, lent.size) = (1, 1f64.to_bits()),
+            call if call.is_of_sizes() => lent.size ^= 1,
             _ if lent.written > 0 => {
                 let from = lent.from();
                 // The last byte: a place that stands for nothing is never there.

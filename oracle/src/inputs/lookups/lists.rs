@@ -33,6 +33,7 @@ pub fn told(value: &Checked<Value>) -> Vec<u8> {
         Ok(Value::Is(is)) => vec![6, u8::from(*is)],
         Ok(Value::Joint(None)) => vec![7],
         Ok(Value::Joint(Some(joint))) => vec![8, joint.start.slice, joint.end.slice],
+        Ok(Value::Shown(_) | Value::Bytes(_)) => unreachable!("no lookup answers these"),
     }
 }
 

@@ -49,7 +49,7 @@ impl Inputs<'_> {
     }
 
     /// Whether a lookup of this class is still wanted: in a small run `limit` of each.
-    fn some(&mut self, limit: usize, class: &[u8]) -> bool {
+    pub fn some(&mut self, limit: usize, class: &[u8]) -> bool {
         if !self.small {
             return true;
         }
