@@ -1,13 +1,13 @@
 -- The proofs of specs/Examples.antt: every one is computed.
 -- Assumes nothing.
 use mathlib.Core.Path.{refl}
-use lib.Ieee.{add, sub, mul, div, round, ofBits, ofInt, toUnsigned, lt, eq}
+use lib.Ieee.{add, sub, mul, div, round, ofBits, ofInt, toUnsigned, lt, eq, le}
 use Rattle.key.specs.Order.{cmpNumber, cmpKey}
 use Rattle.comparable_range.specs.Range.{cmpBound, startSide, endSide, cmpRange}
 use Rattle.manifest.specs.Ranges.{effective}
 use Rattle.visible_size.specs.Steps.{scale, withBytes, keyFraction, commonPrefixLen, rangeLen, lengthsFraction, sameRange, rangesFraction, roundHalfAway, visibleSize}
 use Rattle.visible_size.specs.Sizes.{visibleFraction, estimateVisibleSize}
-use Rattle.visible_size.specs.Examples.{HalfOfFive, HalvesGoUp, NothingCountsOne, ClampHasBothEnds, SliverIsClamped, QuotientOneIsAPart, GreatestSizeIsExact, ShortTableHasEpsilon, PrefixStandsForZero, CommonPrefixIsSkipped, LengthZeroIsWhole, NinthByteIsNotRead}
+use Rattle.visible_size.specs.Examples.{HalfOfFive, HalvesGoUp, NothingCountsOne, NegativeHalvesGoDown, ClampHasBothEnds, PartsHaveBothEnds, SliverIsClamped, QuotientOneIsAPart, GreatestSizeIsExact, ShortTableHasEpsilon, PrefixStandsForZero, CommonPrefixIsSkipped, SkippedIsTheTables, OpenRangeHasLengthOne, LengthZeroIsWhole, NinthByteIsNotRead}
 
 pub half-of-five : HalfOfFive
 unfolding add sub mul div round ofBits ofInt toUnsigned lt eq cmpNumber cmpKey cmpBound startSide endSide cmpRange effective scale withBytes keyFraction commonPrefixLen rangeLen lengthsFraction sameRange rangesFraction roundHalfAway visibleSize visibleFraction estimateVisibleSize
@@ -21,9 +21,17 @@ pub nothing-counts-one : NothingCountsOne
 unfolding add sub mul div round ofBits ofInt toUnsigned lt eq cmpNumber cmpKey cmpBound startSide endSide cmpRange effective scale withBytes keyFraction commonPrefixLen rangeLen lengthsFraction sameRange rangesFraction roundHalfAway visibleSize visibleFraction estimateVisibleSize
 nothing-counts-one = refl
 
+pub negative-halves-go-down : NegativeHalvesGoDown
+unfolding round ofBits roundHalfAway
+negative-halves-go-down = (refl, refl)
+
 pub clamp-has-both-ends : ClampHasBothEnds
 unfolding ofBits lt
 clamp-has-both-ends = (refl, refl)
+
+pub parts-have-both-ends : PartsHaveBothEnds
+unfolding ofBits le
+parts-have-both-ends = (λ h. h .0, λ h. h .1)
 
 pub sliver-is-clamped : SliverIsClamped
 unfolding add sub mul div round ofBits ofInt toUnsigned lt eq cmpNumber cmpKey cmpBound startSide endSide cmpRange effective scale withBytes keyFraction commonPrefixLen rangeLen lengthsFraction sameRange rangesFraction roundHalfAway visibleSize visibleFraction estimateVisibleSize
@@ -48,6 +56,14 @@ prefix-stands-for-zero = refl
 pub common-prefix-is-skipped : CommonPrefixIsSkipped
 unfolding add sub mul div ofBits ofInt lt eq cmpNumber cmpKey cmpBound startSide endSide cmpRange effective scale withBytes keyFraction commonPrefixLen rangeLen lengthsFraction sameRange rangesFraction visibleFraction
 common-prefix-is-skipped = refl
+
+pub skipped-is-the-tables : SkippedIsTheTables
+unfolding add sub mul div ofBits ofInt lt eq cmpNumber cmpKey cmpBound startSide endSide cmpRange effective scale withBytes keyFraction commonPrefixLen rangeLen lengthsFraction sameRange rangesFraction visibleFraction
+skipped-is-the-tables = refl
+
+pub open-range-has-length-one : OpenRangeHasLengthOne
+unfolding sub add ofBits rangeLen
+open-range-has-length-one = refl
 
 pub length-zero-is-whole : LengthZeroIsWhole
 unfolding add sub mul div round ofBits ofInt toUnsigned lt eq cmpNumber cmpKey cmpBound startSide endSide cmpRange effective scale withBytes keyFraction commonPrefixLen rangeLen lengthsFraction sameRange rangesFraction roundHalfAway visibleSize visibleFraction estimateVisibleSize

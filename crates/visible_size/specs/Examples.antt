@@ -5,9 +5,10 @@ use mathlib.Core.Option.{some}
 use mathlib.Core.List.{[], _∷_}
 use lib.Ieee.{binary64, ofBits}
 use Rattle.key.specs.Order.{Key}
-use Rattle.comparable_range.specs.Range.{included, excluded, Range}
+use Rattle.comparable_range.specs.Range.{unbounded, included, excluded, Range}
 use Rattle.records.specs.Values.{View}
-use Rattle.visible_size.specs.Steps.{zero64, one64, minVisibleFraction, clamp}
+use Rattle.visible_size.specs.Steps.{zero64, one64, minVisibleFraction, clamp, rangeLen, roundHalfAway}
+use Rattle.visible_size.specs.Numbers.{InPart}
 use Rattle.visible_size.specs.Sizes.{visibleFraction, estimateVisibleSize}
 use Rattle.visible_size.specs.declared.VisibleFraction.{VisibleFraction}
 use Rattle.visible_size.specs.declared.VisibleFraction.the-variants.{Whole, Part}
@@ -54,11 +55,21 @@ HalvesGoUp = (estimateVisibleSize (firstHalf 3) ≡ 2) × (estimateVisibleSize (
 abbrev pub NothingCountsOne : Type 0
 NothingCountsOne = estimateVisibleSize (firstHalf 0) ≡ 1
 
+-- away from zero is down for a number below it: -2.5 goes to -3, and -0.25 to -0
+abbrev pub NegativeHalvesGoDown : Type 0
+NegativeHalvesGoDown =
+    (roundHalfAway (ofBits binary64 0xC004_0000_0000_0000) ≡ ofBits binary64 0xC008_0000_0000_0000)
+    × (roundHalfAway (ofBits binary64 0xBFD0_0000_0000_0000) ≡ ofBits binary64 0x8000_0000_0000_0000)
+
 -- ---- clamped
 abbrev pub ClampHasBothEnds : Type 0
 ClampHasBothEnds =
     (clamp (ofBits binary64 0x4000_0000_0000_0000) minVisibleFraction one64 ≡ one64)
     × (clamp zero64 minVisibleFraction one64 ≡ minVisibleFraction)
+
+-- no number below 1e-6 or above 1 is a part's, however near
+abbrev pub PartsHaveBothEnds : Type 0
+PartsHaveBothEnds = (InPart (part 0x3EB0_C6F7_A0B5_ED8C) → ⊥) × (InPart (part 0x3FF0_0000_0000_0001) → ⊥)
 
 -- keys 00 to FF, of which those before 00 00 00 01 are visible
 abbrev sliver : View
@@ -96,6 +107,15 @@ abbrev pub CommonPrefixIsSkipped : Type 0
 CommonPrefixIsSkipped =
     visibleFraction (viewOf (0x61 ∷ 0x62 ∷ 0x00 ∷ []) (0x61 ∷ 0x62 ∷ 0x80 ∷ []) (before (0x61 ∷ 0x62 ∷ 0x00 ∷ []) (0x61 ∷ 0x62 ∷ 0x40 ∷ [])) 5)
     ≡ half
+
+-- what the table's keys share is skipped, and not what those of the visible range do: 2^-8
+abbrev pub SkippedIsTheTables : Type 0
+SkippedIsTheTables =
+    visibleFraction (viewOf (byte 0x00) (byte 0x80) (before (byte 0x40) (0x40 ∷ 0x80 ∷ [])) 5) ≡ part 0x3F70_0000_0000_0000
+
+-- an open start is 0 and an open end 1
+abbrev pub OpenRangeHasLengthOne : Type 0
+OpenRangeHasLengthOne = rangeLen 0 (record { start = unbounded; end = unbounded }) ≡ one64
 
 -- a visible range of length 0 counts as the whole
 abbrev onlyFirst : View

@@ -29,6 +29,10 @@ pub record Nearest (m : ℕ) (e : ℤ) (n : ℕ) : Type 0 where
 abbrev pub RoundsToTheNearest : Type 0
 RoundsToTheNearest = (m : ℕ) (e : ℤ) → T (le (fin false m e) mostSize) → Nearest m e (nearestWhole m e)
 
+-- and there is no other that is nearest
+abbrev pub OnlyOneIsNearest : Type 0
+OnlyOneIsNearest = (m : ℕ) (e : ℤ) (n n′ : ℕ) → Nearest m e n → Nearest m e n′ → n ≡ n′
+
 -- ---- a size
 abbrev pub SizeIsAtLeastOne : Type 0
 SizeIsAtLeastOne = (raw : ℕ) (f : VisibleFraction) → 1 ≤ visibleSize raw f
