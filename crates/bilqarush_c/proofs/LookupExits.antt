@@ -10,8 +10,8 @@ use Rattle.partitioned_keyspace.specs.Partitions.{Places}
 use Rattle.partitioned_keyspace.specs.Calls.{partitionPointOutcome}
 use Rattle.partitioned_keyspace.specs.declared.Test.{Test}
 use Rattle.bilqarush.specs.Answers.{stopOf}
-use Rattle.told.specs.Told.{slot}
-use Rattle.told.specs.Lookups.{testGiven, FoundTold, CoveredTold}
+use Rattle.told.specs.Told.{Held, slot, OptionTold}
+use Rattle.told.specs.Lookups.{testGiven, CoveredTold}
 use Rattle.bilqarush_c.proofs.TellExits.{told-stop, told-slot}
 
 -- ---- a count by a test that is given as a flag
@@ -25,18 +25,15 @@ module _ (index key : List ℕ) {t : Test} (flag : Bool) (q : t ≡ testGiven fl
 pub ruleset point-exits = (point-stop, point-slot)
 
 -- ---- two slots
-pub found-told :
-    {o p : Outcome (Option ℕ)} {found found′ : Bool} {partition partition′ r : ℕ}
+pub option-told :
+    {A : Type 0} {o p : Outcome (Option A)} {there : Held Bool} {value : Held A} {r : ℕ}
     → o ≡ p
-    → FoundTold o found found′ partition partition′ r
-    → FoundTold p found found′ partition partition′ r
-found-told e t = rw (← e) t
+    → OptionTold o there value r
+    → OptionTold p there value r
+option-told e t = rw (← e) t
 
 pub covered-told :
-    {o p : Outcome Places} {start start′ end end′ r : ℕ}
-    → o ≡ p
-    → CoveredTold o start start′ end end′ r
-    → CoveredTold p start start′ end end′ r
+    {o p : Outcome Places} {start end : Held ℕ} {r : ℕ} → o ≡ p → CoveredTold o start end r → CoveredTold p start end r
 covered-told e t = rw (← e) t
 
-pub ruleset lookup-exits = (found-told, covered-told)
+pub ruleset lookup-exits = (option-told, covered-told)

@@ -17,7 +17,7 @@ use Rattle.format.specs.declared.span.Joined.{Joined}
 use Rattle.bilqarush.specs.declared.images.Checked.{Checked}
 use Rattle.bilqarush.specs.declared.images.Checked.the-variants.{Accepted, Stop}
 use Rattle.bilqarush.specs.declared.images.ViewRange.{ViewRange}
-use Rattle.told.specs.Told.{slot, sized, counted, Told}
+use Rattle.told.specs.Told.{fromTo, slot, sized, counted, Told}
 use Rattle.told.specs.Layouts.{pointTo, joinedTo, viewRangeTo, keyTo, JointTold, ViewRangeTold}
 
 -- ---- numbers
@@ -40,7 +40,7 @@ stop-sized (stop n) = refl
 stop-sized (answer b) = refl
 
 module _ {d e : List ℕ} {w : Written} {before after r : ℕ} (q : r ≡ stopOf (counted w)) (s : after ≡ slot before (counted w)) where
-  pub told : {o : Outcome (List ℕ)} → w ≡ reported o → e ≡ lent d o → Told o d e before after r
+  pub told : {o : Outcome (List ℕ)} → w ≡ reported o → e ≡ lent d o → Told o (fromTo d e) (fromTo before after) r
   told {o} x y =
       record {
         returns = q ∙ ap (λ v. stopOf (counted v)) x ∙ ap stopOf (counted-reported o) ∙ stop-sized o;
@@ -53,21 +53,21 @@ module _ {d e : List ℕ} {w : Written} {before after r : ℕ} (q : r ≡ stopOf
       → p ≡ pointAt (asPointOutcome range)
       → w ≡ reported (pointTo (length d) p)
       → e ≡ lent d (pointTo (length d) p)
-      → Told (pointTo (length d) (pointAt (asPointOutcome range))) d e before after r
+      → Told (pointTo (length d) (pointAt (asPointOutcome range))) (fromTo d e) (fromTo before after) r
   point-told range f x y = told (x ∙ ap (λ q. reported (pointTo (length d) q)) f) (y ∙ ap (λ q. lent d (pointTo (length d) q)) f)
 
   module _ {a b : List ℕ} {j : Joined} (f : JointFound a b (intersectOutcome a b) j) where
     pub start-told :
         w ≡ reported (keyTo (length d) (startKeyOf (jointOf a b j)))
         → e ≡ lent d (keyTo (length d) (startKeyOf (jointOf a b j)))
-        → Told (keyTo (length d) (intersectStartKeyOutcome a b)) d e before after r
+        → Told (keyTo (length d) (intersectStartKeyOutcome a b)) (fromTo d e) (fromTo before after) r
     unfolding intersectStartKeyOutcome
     start-told x y = rw (← (f .meaning)) (told x y)
 
     pub end-told :
         w ≡ reported (keyTo (length d) (endKeyOf (jointOf a b j)))
         → e ≡ lent d (keyTo (length d) (endKeyOf (jointOf a b j)))
-        → Told (keyTo (length d) (intersectEndKeyOutcome a b)) d e before after r
+        → Told (keyTo (length d) (intersectEndKeyOutcome a b)) (fromTo d e) (fromTo before after) r
     unfolding intersectEndKeyOutcome
     end-told x y = rw (← (f .meaning)) (told x y)
 
@@ -76,7 +76,7 @@ module _ {d e : List ℕ} {w : Written} {before after r : ℕ} (q : r ≡ stopOf
       → JointFound a b g j
       → w ≡ reported (joinedTo (length d) j)
       → e ≡ lent d (joinedTo (length d) j)
-      → JointTold a b g d e before after r
+      → JointTold a b g (fromTo d e) (fromTo before after) r
   joint-told {a} {b} {g} {j} f x y = record { joined = j; found = f; told = told x y }
 
   pub view-range-told :
@@ -84,7 +84,7 @@ module _ {d e : List ℕ} {w : Written} {before after r : ℕ} (q : r ≡ stopOf
       → ViewRangeFound image (compactedEffectiveRangeOutcome image run view) v
       → w ≡ reported (viewRangeTo (length d) v)
       → e ≡ lent d (viewRangeTo (length d) v)
-      → ViewRangeTold image run view d e before after r
+      → ViewRangeTold image run view (fromTo d e) (fromTo before after) r
   view-range-told {v = v} f x y = record { range = v; found = f; told = told x y }
 
 -- where the range that `intersect` answered stands

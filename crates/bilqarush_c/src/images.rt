@@ -5,7 +5,7 @@ ghost use lib.ListN.{length};
 ghost use Rattle.bilqarush.specs.Answers.{stopOf};
 ghost use Rattle.bilqarush.specs.ImageCalls.{checkImageOutcome, listOutcome};
 ghost use Rattle.incremental_progress.specs.Commit.{commitOutcome};
-ghost use Rattle.told.specs.Told.{Told};
+ghost use Rattle.told.specs.Told.{held, Told};
 ghost use Rattle.told.specs.Layouts.{ViewRangeTold};
 
 #[no_mangle]
@@ -26,7 +26,7 @@ pub extern "C" fn bilqarush_compacted_effective_range(
     out: &mut [u8],
     written: &mut usize,
 ) -> u8
-    ensures { λ r. ⌜ ViewRangeTold (now (image .entry)) run view (now (out .entry)) (now (out .exit)) (now (written .entry)) (now (written .exit)) r ⌝ }
+    ensures { λ r. ⌜ ViewRangeTold (now (image .entry)) run view (held out) (held written) r ⌝ }
 {
     let range = bilqarush::compacted_effective_range(image, run, view);
     told::tell(told::answers::put_view_range(range, out), written)
@@ -34,7 +34,7 @@ pub extern "C" fn bilqarush_compacted_effective_range(
 
 #[no_mangle]
 pub extern "C" fn bilqarush_list(image: &[u8], out: &mut [u8], written: &mut usize) -> u8
-    ensures { λ r. ⌜ Told (listOutcome (now (image .entry)) (length (now (out .entry)))) (now (out .entry)) (now (out .exit)) (now (written .entry)) (now (written .exit)) r ⌝ }
+    ensures { λ r. ⌜ Told (listOutcome (now (image .entry)) (length (now (out .entry)))) (held out) (held written) r ⌝ }
 {
     told::tell(bilqarush::list(image, out), written)
 }
@@ -47,7 +47,7 @@ pub extern "C" fn bilqarush_commit<'a>(
     out: &mut [u8],
     written: &mut usize,
 ) -> u8
-    ensures { λ r. ⌜ Told (commitOutcome (now (image .entry)) (now (job .entry)) (now (ids .entry)) (length (now (out .entry)))) (now (out .entry)) (now (out .exit)) (now (written .entry)) (now (written .exit)) r ⌝ }
+    ensures { λ r. ⌜ Told (commitOutcome (now (image .entry)) (now (job .entry)) (now (ids .entry)) (length (now (out .entry)))) (held out) (held written) r ⌝ }
 {
     told::tell(bilqarush::commit(image, job, ids, out), written)
 }

@@ -8,7 +8,7 @@ ghost use mathlib.Core.Path.{_≡_};
 ghost use lib.ListN.{length};
 ghost use Rattle.bilqarush.specs.Calls.{compareOutcome, cmpBoundOutcome, nonEmptyOutcome, containsOutcome, asPointOutcome, intersectOutcome, intersectStartKeyOutcome, intersectEndKeyOutcome, unionOutcome, fromPrefixOutcome, fromPrefixAndSubrangeOutcome};
 ghost use Rattle.bilqarush.specs.Answers.{stopOf, pointAt};
-ghost use Rattle.told.specs.Told.{slot, Told};
+ghost use Rattle.told.specs.Told.{held, slot, Told};
 ghost use Rattle.told.specs.Layouts.{pointTo, keyTo, JointTold};
 
 #[no_mangle]
@@ -52,7 +52,7 @@ pub extern "C" fn bilqarush_contains(range: &[u8], key: &[u8], is: &mut bool) ->
 
 #[no_mangle]
 pub extern "C" fn bilqarush_as_point(range: &[u8], out: &mut [u8], written: &mut usize) -> u8
-    ensures { λ r. ⌜ Told (pointTo (length (now (out .entry))) (pointAt (asPointOutcome (now (range .entry))))) (now (out .entry)) (now (out .exit)) (now (written .entry)) (now (written .exit)) r ⌝ }
+    ensures { λ r. ⌜ Told (pointTo (length (now (out .entry))) (pointAt (asPointOutcome (now (range .entry))))) (held out) (held written) r ⌝ }
 {
     told::tell(
         told::answers::put_point(bilqarush::as_point(range), out),
@@ -67,7 +67,7 @@ pub extern "C" fn bilqarush_intersect<'a>(
     out: &mut [u8],
     written: &mut usize,
 ) -> u8
-    ensures { λ r. ⌜ JointTold (now (a .entry)) (now (b .entry)) (intersectOutcome (now (a .entry)) (now (b .entry))) (now (out .entry)) (now (out .exit)) (now (written .entry)) (now (written .exit)) r ⌝ }
+    ensures { λ r. ⌜ JointTold (now (a .entry)) (now (b .entry)) (intersectOutcome (now (a .entry)) (now (b .entry))) (held out) (held written) r ⌝ }
 {
     told::tell(
         told::answers::put_joined(bilqarush::intersect(a, b), out),
@@ -82,7 +82,7 @@ pub extern "C" fn bilqarush_intersect_start_key<'a>(
     out: &mut [u8],
     written: &mut usize,
 ) -> u8
-    ensures { λ r. ⌜ Told (keyTo (length (now (out .entry))) (intersectStartKeyOutcome (now (a .entry)) (now (b .entry)))) (now (out .entry)) (now (out .exit)) (now (written .entry)) (now (written .exit)) r ⌝ }
+    ensures { λ r. ⌜ Told (keyTo (length (now (out .entry))) (intersectStartKeyOutcome (now (a .entry)) (now (b .entry)))) (held out) (held written) r ⌝ }
 {
     told::tell(
         told::answers::put_start_key(a, b, bilqarush::intersect(a, b), out),
@@ -97,7 +97,7 @@ pub extern "C" fn bilqarush_intersect_end_key<'a>(
     out: &mut [u8],
     written: &mut usize,
 ) -> u8
-    ensures { λ r. ⌜ Told (keyTo (length (now (out .entry))) (intersectEndKeyOutcome (now (a .entry)) (now (b .entry)))) (now (out .entry)) (now (out .exit)) (now (written .entry)) (now (written .exit)) r ⌝ }
+    ensures { λ r. ⌜ Told (keyTo (length (now (out .entry))) (intersectEndKeyOutcome (now (a .entry)) (now (b .entry)))) (held out) (held written) r ⌝ }
 {
     told::tell(
         told::answers::put_end_key(a, b, bilqarush::intersect(a, b), out),
@@ -112,7 +112,7 @@ pub extern "C" fn bilqarush_union<'a>(
     out: &mut [u8],
     written: &mut usize,
 ) -> u8
-    ensures { λ r. ⌜ JointTold (now (a .entry)) (now (b .entry)) (unionOutcome (now (a .entry)) (now (b .entry))) (now (out .entry)) (now (out .exit)) (now (written .entry)) (now (written .exit)) r ⌝ }
+    ensures { λ r. ⌜ JointTold (now (a .entry)) (now (b .entry)) (unionOutcome (now (a .entry)) (now (b .entry))) (held out) (held written) r ⌝ }
 {
     told::tell(
         told::answers::put_joined(bilqarush::union(a, b), out),
@@ -122,7 +122,7 @@ pub extern "C" fn bilqarush_union<'a>(
 
 #[no_mangle]
 pub extern "C" fn bilqarush_from_prefix(prefix: &[u8], out: &mut [u8], written: &mut usize) -> u8
-    ensures { λ r. ⌜ Told (fromPrefixOutcome (now (prefix .entry)) (length (now (out .entry)))) (now (out .entry)) (now (out .exit)) (now (written .entry)) (now (written .exit)) r ⌝ }
+    ensures { λ r. ⌜ Told (fromPrefixOutcome (now (prefix .entry)) (length (now (out .entry)))) (held out) (held written) r ⌝ }
 {
     told::tell(bilqarush::from_prefix(prefix, out), written)
 }
@@ -134,7 +134,7 @@ pub extern "C" fn bilqarush_from_prefix_and_subrange(
     out: &mut [u8],
     written: &mut usize,
 ) -> u8
-    ensures { λ r. ⌜ Told (fromPrefixAndSubrangeOutcome (now (prefix .entry)) (now (subrange .entry)) (length (now (out .entry)))) (now (out .entry)) (now (out .exit)) (now (written .entry)) (now (written .exit)) r ⌝ }
+    ensures { λ r. ⌜ Told (fromPrefixAndSubrangeOutcome (now (prefix .entry)) (now (subrange .entry)) (length (now (out .entry)))) (held out) (held written) r ⌝ }
 {
     told::tell(
         bilqarush::from_prefix_and_subrange(prefix, subrange, out),

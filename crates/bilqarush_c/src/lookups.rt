@@ -2,7 +2,7 @@
 ghost use mathlib.Core.Path.{_≡_};
 ghost use Rattle.db_state.specs.LookupCalls.{tableIdxCoveringRangeOutcome, overlapsRangeOutcome, compactedIntersectionOutcome, calculateViewRangeOutcome, intersectsRangeOutcome};
 ghost use Rattle.bilqarush.specs.Answers.{stopOf};
-ghost use Rattle.told.specs.Told.{slot};
+ghost use Rattle.told.specs.Told.{held, slot};
 ghost use Rattle.told.specs.Lookups.{CoveredTold};
 ghost use Rattle.told.specs.Layouts.{JointTold};
 
@@ -14,7 +14,7 @@ pub extern "C" fn bilqarush_table_idx_covering_range<'a>(
     start: &mut usize,
     end: &mut usize,
 ) -> u8
-    ensures { λ r. ⌜ CoveredTold (tableIdxCoveringRangeOutcome (now (image .entry)) run (now (range .entry))) (now (start .entry)) (now (start .exit)) (now (end .entry)) (now (end .exit)) r ⌝ }
+    ensures { λ r. ⌜ CoveredTold (tableIdxCoveringRangeOutcome (now (image .entry)) run (now (range .entry))) (held start) (held end) r ⌝ }
 {
     told::tell_covered(
         bilqarush::table_idx_covering_range(image, run, range),
@@ -45,7 +45,7 @@ pub extern "C" fn bilqarush_compacted_intersection<'a>(
     out: &mut [u8],
     written: &mut usize,
 ) -> u8
-    ensures { λ r. ⌜ JointTold (now (image .entry)) (now (range .entry)) (compactedIntersectionOutcome (now (image .entry)) run view (now (range .entry))) (now (out .entry)) (now (out .exit)) (now (written .entry)) (now (written .exit)) r ⌝ }
+    ensures { λ r. ⌜ JointTold (now (image .entry)) (now (range .entry)) (compactedIntersectionOutcome (now (image .entry)) run view (now (range .entry))) (held out) (held written) r ⌝ }
 {
     let joined = bilqarush::compacted_intersection(image, run, view, range);
     told::tell(told::answers::put_joined(joined, out), written)
@@ -60,7 +60,7 @@ pub extern "C" fn bilqarush_calculate_view_range<'a>(
     out: &mut [u8],
     written: &mut usize,
 ) -> u8
-    ensures { λ r. ⌜ JointTold (now (image .entry)) (now (range .entry)) (calculateViewRangeOutcome (now (image .entry)) run view (now (range .entry))) (now (out .entry)) (now (out .exit)) (now (written .entry)) (now (written .exit)) r ⌝ }
+    ensures { λ r. ⌜ JointTold (now (image .entry)) (now (range .entry)) (calculateViewRangeOutcome (now (image .entry)) run view (now (range .entry))) (held out) (held written) r ⌝ }
 {
     let joined = bilqarush::calculate_view_range(image, run, view, range);
     told::tell(told::answers::put_joined(joined, out), written)

@@ -2,8 +2,8 @@
 ghost use mathlib.Core.Path.{_≡_};
 ghost use Rattle.partitioned_keyspace.specs.Calls.{partitionPointOutcome, firstPartitionIncludingKeyOutcome, firstPartitionIncludingOrAfterKeyOutcome, lastPartitionIncludingKeyOutcome, partitionsCoveringRangeOutcome};
 ghost use Rattle.bilqarush.specs.Answers.{stopOf};
-ghost use Rattle.told.specs.Told.{slot};
-ghost use Rattle.told.specs.Lookups.{testGiven, FoundTold, CoveredTold};
+ghost use Rattle.told.specs.Told.{held, slot, OptionTold};
+ghost use Rattle.told.specs.Lookups.{testGiven, CoveredTold};
 
 #[no_mangle]
 pub extern "C" fn bilqarush_partition_point<'a>(
@@ -26,7 +26,7 @@ pub extern "C" fn bilqarush_first_partition_including_key<'a>(
     found: &mut bool,
     partition: &mut usize,
 ) -> u8
-    ensures { λ r. ⌜ FoundTold (firstPartitionIncludingKeyOutcome (now (index .entry)) (now (key .entry))) (now (found .entry)) (now (found .exit)) (now (partition .entry)) (now (partition .exit)) r ⌝ }
+    ensures { λ r. ⌜ OptionTold (firstPartitionIncludingKeyOutcome (now (index .entry)) (now (key .entry))) (held found) (held partition) r ⌝ }
 {
     told::tell_found(
         bilqarush::first_partition_including_key(index, key),
@@ -57,7 +57,7 @@ pub extern "C" fn bilqarush_last_partition_including_key<'a>(
     found: &mut bool,
     partition: &mut usize,
 ) -> u8
-    ensures { λ r. ⌜ FoundTold (lastPartitionIncludingKeyOutcome (now (index .entry)) (now (key .entry))) (now (found .entry)) (now (found .exit)) (now (partition .entry)) (now (partition .exit)) r ⌝ }
+    ensures { λ r. ⌜ OptionTold (lastPartitionIncludingKeyOutcome (now (index .entry)) (now (key .entry))) (held found) (held partition) r ⌝ }
 {
     told::tell_found(
         bilqarush::last_partition_including_key(index, key),
@@ -73,7 +73,7 @@ pub extern "C" fn bilqarush_partitions_covering_range<'a>(
     start: &mut usize,
     end: &mut usize,
 ) -> u8
-    ensures { λ r. ⌜ CoveredTold (partitionsCoveringRangeOutcome (now (index .entry)) (now (range .entry))) (now (start .entry)) (now (start .exit)) (now (end .entry)) (now (end .exit)) r ⌝ }
+    ensures { λ r. ⌜ CoveredTold (partitionsCoveringRangeOutcome (now (index .entry)) (now (range .entry))) (held start) (held end) r ⌝ }
 {
     told::tell_covered(
         bilqarush::partitions_covering_range(index, range),

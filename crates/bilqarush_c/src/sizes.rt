@@ -2,8 +2,8 @@
 ghost use mathlib.Core.Path.{_≡_};
 ghost use Rattle.view_sizes.specs.SizeCalls.{visibleFractionOutcome, estimateVisibleSizeOutcome, estimateRunVisibleSizeOutcome};
 ghost use Rattle.bilqarush.specs.Answers.{stopOf};
-ghost use Rattle.told.specs.Told.{slot};
-ghost use Rattle.told.specs.Sizes.{FractionTold};
+ghost use Rattle.told.specs.Told.{held, slot, OptionTold};
+ghost use Rattle.told.specs.Sizes.{partOf};
 
 #[no_mangle]
 pub extern "C" fn bilqarush_visible_fraction(
@@ -13,7 +13,7 @@ pub extern "C" fn bilqarush_visible_fraction(
     part: &mut bool,
     fraction: &mut f64,
 ) -> u8
-    ensures { λ r. ⌜ FractionTold (visibleFractionOutcome (now (image .entry)) run view) (now (part .entry)) (now (part .exit)) (now (fraction .entry)) (now (fraction .exit)) r ⌝ }
+    ensures { λ r. ⌜ OptionTold (partOf (visibleFractionOutcome (now (image .entry)) run view)) (held part) (held fraction) r ⌝ }
 {
     told::tell_fraction(
         bilqarush::visible_fraction(image, run, view),

@@ -34,15 +34,15 @@ count-below-is-told = refl
 
 pub partition-is-told : PartitionIsTold
 unfolding cmpKey cmpNumber digits cmpBound readNumber readBytes readKey whole keyGiven readMany block index ascendFrom indexChecks partitionPoint firstPartitionIncludingKey indexAndKey firstPartitionIncludingKeyOutcome
-partition-is-told = record { returns = refl; there = refl; place = refl }
+partition-is-told = record { returns = refl; flag = refl; answered = refl }
 
 pub no-partition-is-told : NoPartitionIsTold
 unfolding cmpKey cmpNumber digits cmpBound readNumber readBytes readKey whole keyGiven readMany block index ascendFrom indexChecks partitionPoint lastPartitionIncludingKey indexAndKey lastPartitionIncludingKeyOutcome
-no-partition-is-told = record { returns = refl; there = refl; place = refl }
+no-partition-is-told = record { returns = refl; flag = refl; answered = refl }
 
 pub stop-is-told : StopIsTold
 unfolding readNumber whole index indexAndKey firstPartitionIncludingKeyOutcome
-stop-is-told = record { returns = refl; there = refl; place = refl }
+stop-is-told = record { returns = refl; flag = refl; answered = refl }
 
 pub places-are-told : PlacesAreTold
 unfolding cmpKey cmpNumber digits cmpBound boundsPass readNumber readBytes readKey headOf readBound readRange whole readMany block index ascendFrom indexChecks partitionPoint startsWith firstPartitionIncludingKey firstPartitionIncludingOrAfterKey partitionsCoveringBounds partitionsCoveringRange askedChecks indexAndRange partitionsCoveringRangeOutcome

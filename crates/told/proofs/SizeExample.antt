@@ -22,15 +22,15 @@ use Rattle.told.specs.SizeExample.{PartIsTold, WholeIsTold, FractionStop
 -- ---- the fraction
 pub part-is-told : PartIsTold
 unfolding cmpKey cmpNumber digits cmpBound boundsPass startSide endSide intersectSides readNumber readBytes readKey headOf readBound readRange whole readIf readMany flagOf countOf viewCountOf table view run image effective all visiblePasses keysInOrder tablePasses ascendFrom has distinct sizePasses imageChecks imageGiven at viewAt viewGiven ofBits round add sub mul div lt eq ofInt cmpRange scale withBytes keyFraction commonPrefixLen rangeLen lengthsFraction sameRange rangesFraction visibleFraction visibleFractionOutcome
-part-is-told = record { returns = refl; flag = refl; number = refl }
+part-is-told = record { returns = refl; flag = refl; answered = refl }
 
 pub whole-is-told : WholeIsTold
 unfolding cmpKey cmpNumber digits cmpBound boundsPass startSide endSide intersectSides readNumber readBytes readKey headOf readBound readRange whole readIf readMany flagOf countOf viewCountOf table view run image effective all visiblePasses keysInOrder tablePasses ascendFrom has distinct sizePasses imageChecks imageGiven at viewAt viewGiven cmpRange sameRange rangesFraction visibleFraction visibleFractionOutcome
-whole-is-told = record { returns = refl; flag = refl; number = refl }
+whole-is-told = record { returns = refl; flag = refl; answered = refl }
 
 pub fraction-stop-is-told : FractionStopIsTold
 unfolding readNumber whole image imageGiven viewGiven visibleFractionOutcome
-fraction-stop-is-told = record { returns = refl; flag = refl; number = refl }
+fraction-stop-is-told = record { returns = refl; flag = refl; answered = refl }
 
 -- ---- the size
 pub size-is-told : SizeIsTold

@@ -22,7 +22,7 @@ use Rattle.format.specs.declared.span.Joined.the-variants.{Range as Bounds, Not
 use Rattle.bilqarush.specs.declared.images.ViewRange.{ViewRange}
 use Rattle.bilqarush.specs.declared.images.ViewRange.the-variants.{At as RangeAt, Stop as RangeStop}
 use mathlib.Core.Option.{Option}
-use Rattle.told.specs.Told.{Told}
+use Rattle.told.specs.Told.{Held, Told}
 
 abbrev pub sideNumber : Side → ℕ
 sideNumber First = 1
@@ -62,12 +62,12 @@ abbrev pub keyTo : ℕ → Outcome Key → Outcome (List ℕ)
 keyTo room g = andThen g (λ k. writtenTo room k)
 
 -- ---- the calls that answer with places of their own choosing
-pub record JointTold (a b : List ℕ) (g : Outcome (Option Joint)) (d e : List ℕ) (before after r : ℕ) : Type 0 where
+pub record JointTold (a b : List ℕ) (g : Outcome (Option Joint)) (out : Held (List ℕ)) (written : Held ℕ) (r : ℕ) : Type 0 where
   pub joined : Joined
   pub found : JointFound a b g joined
-  pub told : Told (joinedTo (length d) joined) d e before after r
+  pub told : Told (joinedTo (length (out .before)) joined) out written r
 
-pub record ViewRangeTold (image : List ℕ) (run view : ℕ) (d e : List ℕ) (before after r : ℕ) : Type 0 where
+pub record ViewRangeTold (image : List ℕ) (run view : ℕ) (out : Held (List ℕ)) (written : Held ℕ) (r : ℕ) : Type 0 where
   pub range : ViewRange
   pub found : ViewRangeFound image (compactedEffectiveRangeOutcome image run view) range
-  pub told : Told (viewRangeTo (length d) range) d e before after r
+  pub told : Told (viewRangeTo (length (out .before)) range) out written r

@@ -13,8 +13,8 @@ use Rattle.format.specs.declared.span.Joined.the-variants.{Range}
 use Rattle.partitioned_keyspace.specs.Calls.{partitionPointOutcome, firstPartitionIncludingKeyOutcome, lastPartitionIncludingKeyOutcome, partitionsCoveringRangeOutcome}
 use Rattle.db_state.specs.LookupCalls.{overlapsRangeOutcome, compactedIntersectionOutcome}
 use Rattle.bilqarush.specs.Example.{exampleImage}
-use Rattle.told.specs.Told.{slot}
-use Rattle.told.specs.Lookups.{testGiven, FoundTold, CoveredTold}
+use Rattle.told.specs.Told.{fromTo, slot, OptionTold}
+use Rattle.told.specs.Lookups.{testGiven, CoveredTold}
 use Rattle.told.specs.Layouts.{joinedTo}
 
 -- ---- an index: two blocks, each an offset of 8 bytes and a key
@@ -30,22 +30,22 @@ CountBelowIsTold = slot 7 (partitionPointOutcome bAndD (testGiven false) (100 �
 
 -- c may be in the partition that starts with b
 abbrev pub PartitionIsTold : Type 0
-PartitionIsTold = FoundTold (firstPartitionIncludingKeyOutcome bAndD (99 ∷ [])) true true 7 0 0
+PartitionIsTold = OptionTold (firstPartitionIncludingKeyOutcome bAndD (99 ∷ [])) (fromTo true true) (fromTo 7 0) 0
 
 -- a is in none: its place is left as it was
 abbrev pub NoPartitionIsTold : Type 0
-NoPartitionIsTold = FoundTold (lastPartitionIncludingKeyOutcome bAndD (97 ∷ [])) true false 7 7 0
+NoPartitionIsTold = OptionTold (lastPartitionIncludingKeyOutcome bAndD (97 ∷ [])) (fromTo true false) (fromTo 7 7) 0
 
 -- no index at all: stop 1, and both slots are left
 abbrev pub StopIsTold : Type 0
-StopIsTold = FoundTold (firstPartitionIncludingKeyOutcome [] (97 ∷ [])) true true 7 7 1
+StopIsTold = OptionTold (firstPartitionIncludingKeyOutcome [] (97 ∷ [])) (fromTo true true) (fromTo 7 7) 1
 
 -- from c on: both partitions
 abbrev pub fromC : List ℕ
 fromC = 64 ∷ 0 ∷ 1 ∷ 99 ∷ []
 
 abbrev pub PlacesAreTold : Type 0
-PlacesAreTold = CoveredTold (partitionsCoveringRangeOutcome bAndD fromC) 7 0 7 2 0
+PlacesAreTold = CoveredTold (partitionsCoveringRangeOutcome bAndD fromC) (fromTo 7 0) (fromTo 7 2) 0
 
 -- ---- document 01's image
 abbrev pub TestIsTold : Type 0

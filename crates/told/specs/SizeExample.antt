@@ -7,8 +7,8 @@ use mathlib.Core.List.{List, [], _∷_, _++_}
 use lib.Ieee.{Float, binary64, ofBits}
 use Rattle.view_sizes.specs.SizeCalls.{visibleFractionOutcome, estimateVisibleSizeOutcome, estimateRunVisibleSizeOutcome}
 use Rattle.bilqarush.specs.Answers.{stopOf}
-use Rattle.told.specs.Told.{slot}
-use Rattle.told.specs.Sizes.{FractionTold}
+use Rattle.told.specs.Told.{fromTo, slot, OptionTold}
+use Rattle.told.specs.Sizes.{partOf}
 
 -- ---- the image up to the view's visible flag
 abbrev pub from00To80 : List ℕ
@@ -35,15 +35,15 @@ half = ofBits binary64 0x3FE0_0000_0000_0000
 
 -- ---- the fraction
 abbrev pub PartIsTold : Type 0
-PartIsTold = FractionTold (visibleFractionOutcome halfShown 0 0) false true seven half 0
+PartIsTold = OptionTold (partOf (visibleFractionOutcome halfShown 0 0)) (fromTo false true) (fromTo seven half) 0
 
 -- the number's slot is left as it was
 abbrev pub WholeIsTold : Type 0
-WholeIsTold = FractionTold (visibleFractionOutcome allShown 0 0) true false seven seven 0
+WholeIsTold = OptionTold (partOf (visibleFractionOutcome allShown 0 0)) (fromTo true false) (fromTo seven seven) 0
 
 -- no image at all: stop 1, and both slots are left
 abbrev pub FractionStopIsTold : Type 0
-FractionStopIsTold = FractionTold (visibleFractionOutcome [] 0 0) true true seven seven 1
+FractionStopIsTold = OptionTold (partOf (visibleFractionOutcome [] 0 0)) (fromTo true true) (fromTo seven seven) 1
 
 -- ---- the size: half of 5, rounded away from zero
 abbrev pub SizeIsTold : Type 0

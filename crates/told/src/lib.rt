@@ -17,9 +17,9 @@ ghost use Rattle.base.specs.Outcome.{testOf};
 ghost use Rattle.partitioned_keyspace.specs.Calls.{countOf, foundOf, coveredOf};
 ghost use Rattle.view_sizes.specs.SizeCalls.{fractionOf, sizeOf};
 ghost use Rattle.bilqarush.specs.Answers.{stopOf, orderOf};
-ghost use Rattle.told.specs.Told.{slot, counted};
-ghost use Rattle.told.specs.Lookups.{testGiven, FoundTold, CoveredTold};
-ghost use Rattle.told.specs.Sizes.{FractionTold};
+ghost use Rattle.told.specs.Told.{held, slot, counted, OptionTold};
+ghost use Rattle.told.specs.Lookups.{testGiven, CoveredTold};
+ghost use Rattle.told.specs.Sizes.{partOf};
 
 pub fn tell_order(c: Compared, order: &mut i8) -> u8
     ensures { λ r. ⌜ r ≡ stopOf (orderOf c) ⌝ }
@@ -85,7 +85,7 @@ pub fn tell_count(c: Counted, count: &mut usize) -> u8
 }
 
 pub fn tell_found(f: Found, found: &mut bool, partition: &mut usize) -> u8
-    ensures { λ r. ⌜ FoundTold (foundOf f) (now (found .entry)) (now (found .exit)) (now (partition .entry)) (now (partition .exit)) r ⌝ }
+    ensures { λ r. ⌜ OptionTold (foundOf f) (held found) (held partition) r ⌝ }
 {
     match f {
         Found::Stop(n) => n,
@@ -102,7 +102,7 @@ pub fn tell_found(f: Found, found: &mut bool, partition: &mut usize) -> u8
 }
 
 pub fn tell_covered(c: Covered, start: &mut usize, end: &mut usize) -> u8
-    ensures { λ r. ⌜ CoveredTold (coveredOf c) (now (start .entry)) (now (start .exit)) (now (end .entry)) (now (end .exit)) r ⌝ }
+    ensures { λ r. ⌜ CoveredTold (coveredOf c) (held start) (held end) r ⌝ }
 {
     match c {
         Covered::Stop(n) => n,
@@ -116,7 +116,7 @@ pub fn tell_covered(c: Covered, start: &mut usize, end: &mut usize) -> u8
 
 // Whether a fraction is a part, and then its number.
 pub fn tell_fraction(s: Shown, part: &mut bool, fraction: &mut f64) -> u8
-    ensures { λ r. ⌜ FractionTold (fractionOf s) (now (part .entry)) (now (part .exit)) (now (fraction .entry)) (now (fraction .exit)) r ⌝ }
+    ensures { λ r. ⌜ OptionTold (partOf (fractionOf s)) (held part) (held fraction) r ⌝ }
 {
     match s {
         Shown::Stop(n) => n,
