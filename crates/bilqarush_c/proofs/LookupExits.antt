@@ -9,20 +9,18 @@ use Rattle.base.specs.Outcome.{Outcome}
 use Rattle.partitioned_keyspace.specs.Partitions.{Places}
 use Rattle.partitioned_keyspace.specs.Calls.{partitionPointOutcome}
 use Rattle.partitioned_keyspace.specs.declared.Test.{Test}
-use Rattle.bilqarush.specs.Answers.{stopOf}
-use Rattle.told.specs.Told.{Held, slot, OptionTold}
+use Rattle.told.specs.Told.{Held, SlotTold, OptionTold}
 use Rattle.told.specs.Lookups.{testGiven, CoveredTold}
-use Rattle.bilqarush_c.proofs.TellExits.{told-stop, told-slot}
+use Rattle.bilqarush_c.proofs.TellExits.{slot-told}
 
 -- ---- a count by a test that is given as a flag
-module _ (index key : List ℕ) {t : Test} (flag : Bool) (q : t ≡ testGiven flag) {o : Outcome ℕ} (e : o ≡ partitionPointOutcome index t key) where
-  pub point-stop : {r : ℕ} → r ≡ stopOf o → r ≡ stopOf (partitionPointOutcome index (testGiven flag) key)
-  point-stop h = rw (← q) (told-stop e h)
-
-  pub point-slot : (before : ℕ) {after : ℕ} → after ≡ slot before o → after ≡ slot before (partitionPointOutcome index (testGiven flag) key)
-  point-slot before h = rw (← q) (told-slot e before h)
-
-pub ruleset point-exits = (point-stop, point-slot)
+pub count-told :
+    (index key : List ℕ) {t : Test} (flag : Bool) {o : Outcome ℕ} {s : Held ℕ} {r : ℕ}
+    → t ≡ testGiven flag
+    → o ≡ partitionPointOutcome index t key
+    → SlotTold o s r
+    → SlotTold (partitionPointOutcome index (testGiven flag) key) s r
+count-told index key flag q e t = rw (← q) (slot-told e t)
 
 -- ---- two slots
 pub option-told :

@@ -17,18 +17,12 @@ use Rattle.format.specs.declared.span.Joined.{Joined}
 use Rattle.bilqarush.specs.declared.images.Checked.{Checked}
 use Rattle.bilqarush.specs.declared.images.Checked.the-variants.{Accepted, Stop}
 use Rattle.bilqarush.specs.declared.images.ViewRange.{ViewRange}
-use Rattle.told.specs.Told.{fromTo, slot, sized, counted, Told}
+use Rattle.told.specs.Told.{Held, fromTo, slot, sized, counted, SlotTold, Told}
 use Rattle.told.specs.Layouts.{pointTo, joinedTo, viewRangeTo, keyTo, JointTold, ViewRangeTold}
 
--- ---- numbers
-module _ {A : Type 0} {o p : Outcome A} (e : o ≡ p) where
-  pub told-stop : {r : ℕ} → r ≡ stopOf o → r ≡ stopOf p
-  told-stop q = q ∙ ap stopOf e
-
-  pub told-slot : (before : A) {after : A} → after ≡ slot before o → after ≡ slot before p
-  told-slot before q = q ∙ ap (slot before) e
-
-pub ruleset number-exits = (told-stop, told-slot)
+-- ---- one slot
+pub slot-told : {A : Type 0} {o p : Outcome A} {s : Held A} {r : ℕ} → o ≡ p → SlotTold o s r → SlotTold p s r
+slot-told e t = rw (← e) t
 
 -- ---- bytes
 counted-reported : (o : Outcome (List ℕ)) → counted (reported o) ≡ sized o
@@ -39,13 +33,13 @@ stop-sized : (o : Outcome (List ℕ)) → stopOf (sized o) ≡ stopOf o
 stop-sized (stop n) = refl
 stop-sized (answer b) = refl
 
-module _ {d e : List ℕ} {w : Written} {before after r : ℕ} (q : r ≡ stopOf (counted w)) (s : after ≡ slot before (counted w)) where
+module _ {d e : List ℕ} {w : Written} {before after r : ℕ} (t : SlotTold (counted w) (fromTo before after) r) where
   pub told : {o : Outcome (List ℕ)} → w ≡ reported o → e ≡ lent d o → Told o (fromTo d e) (fromTo before after) r
   told {o} x y =
       record {
-        returns = q ∙ ap (λ v. stopOf (counted v)) x ∙ ap stopOf (counted-reported o) ∙ stop-sized o;
+        returns = t .returns ∙ ap (λ v. stopOf (counted v)) x ∙ ap stopOf (counted-reported o) ∙ stop-sized o;
         buffer = y;
-        count = s ∙ ap (λ v. slot before (counted v)) x ∙ ap (slot before) (counted-reported o);
+        count = t .answered ∙ ap (λ v. slot before (counted v)) x ∙ ap (slot before) (counted-reported o);
       }
 
   pub point-told :

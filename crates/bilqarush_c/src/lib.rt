@@ -7,14 +7,13 @@ mod sizes;
 ghost use mathlib.Core.Path.{_≡_};
 ghost use lib.ListN.{length};
 ghost use Rattle.bilqarush.specs.Calls.{compareOutcome, cmpBoundOutcome, nonEmptyOutcome, containsOutcome, asPointOutcome, intersectOutcome, intersectStartKeyOutcome, intersectEndKeyOutcome, unionOutcome, fromPrefixOutcome, fromPrefixAndSubrangeOutcome};
-ghost use Rattle.bilqarush.specs.Answers.{stopOf, pointAt};
-ghost use Rattle.told.specs.Told.{held, slot, Told};
+ghost use Rattle.bilqarush.specs.Answers.{pointAt};
+ghost use Rattle.told.specs.Told.{held, SlotTold, Told};
 ghost use Rattle.told.specs.Layouts.{pointTo, keyTo, JointTold};
 
 #[no_mangle]
 pub extern "C" fn bilqarush_compare(a: &[u8], b: &[u8], order: &mut i8) -> u8
-    ensures { λ r. ⌜ r ≡ stopOf (compareOutcome (now (a .entry)) (now (b .entry))) ⌝ }
-    ensures { λ _. ⌜ now (order .exit) ≡ slot (now (order .entry)) (compareOutcome (now (a .entry)) (now (b .entry))) ⌝ }
+    ensures { λ r. ⌜ SlotTold (compareOutcome (now (a .entry)) (now (b .entry))) (held order) r ⌝ }
 {
     told::tell_order(bilqarush::compare(a, b), order)
 }
@@ -28,24 +27,21 @@ pub extern "C" fn bilqarush_cmp_bound(
     start: bool,
     order: &mut i8,
 ) -> u8
-    ensures { λ r. ⌜ r ≡ stopOf (cmpBoundOutcome «a_kind» (now (a .entry)) «b_kind» (now (b .entry)) start) ⌝ }
-    ensures { λ _. ⌜ now (order .exit) ≡ slot (now (order .entry)) (cmpBoundOutcome «a_kind» (now (a .entry)) «b_kind» (now (b .entry)) start) ⌝ }
+    ensures { λ r. ⌜ SlotTold (cmpBoundOutcome «a_kind» (now (a .entry)) «b_kind» (now (b .entry)) start) (held order) r ⌝ }
 {
     told::tell_order(bilqarush::cmp_bound(a_kind, a, b_kind, b, start), order)
 }
 
 #[no_mangle]
 pub extern "C" fn bilqarush_non_empty(range: &[u8], is: &mut bool) -> u8
-    ensures { λ r. ⌜ r ≡ stopOf (nonEmptyOutcome (now (range .entry))) ⌝ }
-    ensures { λ _. ⌜ now (is .exit) ≡ slot (now (is .entry)) (nonEmptyOutcome (now (range .entry))) ⌝ }
+    ensures { λ r. ⌜ SlotTold (nonEmptyOutcome (now (range .entry))) (held is) r ⌝ }
 {
     told::tell_test(bilqarush::non_empty(range), is)
 }
 
 #[no_mangle]
 pub extern "C" fn bilqarush_contains(range: &[u8], key: &[u8], is: &mut bool) -> u8
-    ensures { λ r. ⌜ r ≡ stopOf (containsOutcome (now (range .entry)) (now (key .entry))) ⌝ }
-    ensures { λ _. ⌜ now (is .exit) ≡ slot (now (is .entry)) (containsOutcome (now (range .entry)) (now (key .entry))) ⌝ }
+    ensures { λ r. ⌜ SlotTold (containsOutcome (now (range .entry)) (now (key .entry))) (held is) r ⌝ }
 {
     told::tell_test(bilqarush::contains(range, key), is)
 }

@@ -1,8 +1,7 @@
 // The lookups in a run or a view of an image for C.
 ghost use mathlib.Core.Path.{_≡_};
 ghost use Rattle.db_state.specs.LookupCalls.{tableIdxCoveringRangeOutcome, overlapsRangeOutcome, compactedIntersectionOutcome, calculateViewRangeOutcome, intersectsRangeOutcome};
-ghost use Rattle.bilqarush.specs.Answers.{stopOf};
-ghost use Rattle.told.specs.Told.{held, slot};
+ghost use Rattle.told.specs.Told.{held, SlotTold};
 ghost use Rattle.told.specs.Lookups.{CoveredTold};
 ghost use Rattle.told.specs.Layouts.{JointTold};
 
@@ -30,8 +29,7 @@ pub extern "C" fn bilqarush_overlaps_range<'a>(
     range: &'a [u8],
     is: &mut bool,
 ) -> u8
-    ensures { λ r. ⌜ r ≡ stopOf (overlapsRangeOutcome (now (image .entry)) run (now (range .entry))) ⌝ }
-    ensures { λ _. ⌜ now (is .exit) ≡ slot (now (is .entry)) (overlapsRangeOutcome (now (image .entry)) run (now (range .entry))) ⌝ }
+    ensures { λ r. ⌜ SlotTold (overlapsRangeOutcome (now (image .entry)) run (now (range .entry))) (held is) r ⌝ }
 {
     told::tell_test(bilqarush::overlaps_range(image, run, range), is)
 }
@@ -76,8 +74,7 @@ pub extern "C" fn bilqarush_intersects_range<'a>(
     range: &'a [u8],
     is: &mut bool,
 ) -> u8
-    ensures { λ r. ⌜ r ≡ stopOf (intersectsRangeOutcome (now (image .entry)) run view «end_kind» (now (end .entry)) (now (range .entry))) ⌝ }
-    ensures { λ _. ⌜ now (is .exit) ≡ slot (now (is .entry)) (intersectsRangeOutcome (now (image .entry)) run view «end_kind» (now (end .entry)) (now (range .entry))) ⌝ }
+    ensures { λ r. ⌜ SlotTold (intersectsRangeOutcome (now (image .entry)) run view «end_kind» (now (end .entry)) (now (range .entry))) (held is) r ⌝ }
 {
     told::tell_test(
         bilqarush::intersects_range(image, run, view, end_kind, end, range),

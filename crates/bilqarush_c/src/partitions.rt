@@ -1,8 +1,7 @@
 // The lookups in an index for C.
 ghost use mathlib.Core.Path.{_≡_};
 ghost use Rattle.partitioned_keyspace.specs.Calls.{partitionPointOutcome, firstPartitionIncludingKeyOutcome, firstPartitionIncludingOrAfterKeyOutcome, lastPartitionIncludingKeyOutcome, partitionsCoveringRangeOutcome};
-ghost use Rattle.bilqarush.specs.Answers.{stopOf};
-ghost use Rattle.told.specs.Told.{held, slot, OptionTold};
+ghost use Rattle.told.specs.Told.{held, SlotTold, OptionTold};
 ghost use Rattle.told.specs.Lookups.{testGiven, CoveredTold};
 
 #[no_mangle]
@@ -12,8 +11,7 @@ pub extern "C" fn bilqarush_partition_point<'a>(
     key: &'a [u8],
     count: &mut usize,
 ) -> u8
-    ensures { λ r. ⌜ r ≡ stopOf (partitionPointOutcome (now (index .entry)) (testGiven «at_or_below») (now (key .entry))) ⌝ }
-    ensures { λ _. ⌜ now (count .exit) ≡ slot (now (count .entry)) (partitionPointOutcome (now (index .entry)) (testGiven «at_or_below») (now (key .entry))) ⌝ }
+    ensures { λ r. ⌜ SlotTold (partitionPointOutcome (now (index .entry)) (testGiven «at_or_below») (now (key .entry))) (held count) r ⌝ }
 {
     let test = told::test_given(at_or_below);
     told::tell_count(bilqarush::partition_point(index, test, key), count)
@@ -41,8 +39,7 @@ pub extern "C" fn bilqarush_first_partition_including_or_after_key<'a>(
     key: &'a [u8],
     partition: &mut usize,
 ) -> u8
-    ensures { λ r. ⌜ r ≡ stopOf (firstPartitionIncludingOrAfterKeyOutcome (now (index .entry)) (now (key .entry))) ⌝ }
-    ensures { λ _. ⌜ now (partition .exit) ≡ slot (now (partition .entry)) (firstPartitionIncludingOrAfterKeyOutcome (now (index .entry)) (now (key .entry))) ⌝ }
+    ensures { λ r. ⌜ SlotTold (firstPartitionIncludingOrAfterKeyOutcome (now (index .entry)) (now (key .entry))) (held partition) r ⌝ }
 {
     told::tell_count(
         bilqarush::first_partition_including_or_after_key(index, key),

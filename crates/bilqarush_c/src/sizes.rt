@@ -1,8 +1,7 @@
 // Visible sizes of a view and of a run of an image for C.
 ghost use mathlib.Core.Path.{_≡_};
 ghost use Rattle.view_sizes.specs.SizeCalls.{visibleFractionOutcome, estimateVisibleSizeOutcome, estimateRunVisibleSizeOutcome};
-ghost use Rattle.bilqarush.specs.Answers.{stopOf};
-ghost use Rattle.told.specs.Told.{held, slot, OptionTold};
+ghost use Rattle.told.specs.Told.{held, SlotTold, OptionTold};
 ghost use Rattle.told.specs.Sizes.{partOf};
 
 #[no_mangle]
@@ -29,8 +28,7 @@ pub extern "C" fn bilqarush_estimate_visible_size(
     view: usize,
     size: &mut u64,
 ) -> u8
-    ensures { λ r. ⌜ r ≡ stopOf (estimateVisibleSizeOutcome (now (image .entry)) run view) ⌝ }
-    ensures { λ _. ⌜ now (size .exit) ≡ slot (now (size .entry)) (estimateVisibleSizeOutcome (now (image .entry)) run view) ⌝ }
+    ensures { λ r. ⌜ SlotTold (estimateVisibleSizeOutcome (now (image .entry)) run view) (held size) r ⌝ }
 {
     told::tell_size(bilqarush::estimate_visible_size(image, run, view), size)
 }
@@ -41,8 +39,7 @@ pub extern "C" fn bilqarush_estimate_run_visible_size(
     run: usize,
     size: &mut u64,
 ) -> u8
-    ensures { λ r. ⌜ r ≡ stopOf (estimateRunVisibleSizeOutcome (now (image .entry)) run) ⌝ }
-    ensures { λ _. ⌜ now (size .exit) ≡ slot (now (size .entry)) (estimateRunVisibleSizeOutcome (now (image .entry)) run) ⌝ }
+    ensures { λ r. ⌜ SlotTold (estimateRunVisibleSizeOutcome (now (image .entry)) run) (held size) r ⌝ }
 {
     told::tell_size(bilqarush::estimate_run_visible_size(image, run), size)
 }

@@ -39,6 +39,11 @@ abbrev pub counted : Written → Outcome ℕ
 counted (Wrote n) = answer n
 counted (Stop n) = stop n
 
+-- a call that answers one value: what it returns, and the slot
+pub record SlotTold {A : Type 0} (o : Outcome A) (s : Held A) (r : ℕ) : Type 0 where
+  pub returns : r ≡ stopOf o
+  pub answered : s .after ≡ slot (s .before) o
+
 -- a call that writes: what it returns, the buffer and the slot
 pub record Told (o : Outcome (List ℕ)) (out : Held (List ℕ)) (written : Held ℕ) (r : ℕ) : Type 0 where
   pub returns : r ≡ stopOf o

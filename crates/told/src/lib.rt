@@ -16,14 +16,13 @@ ghost use mathlib.Core.Path.{_≡_};
 ghost use Rattle.base.specs.Outcome.{testOf};
 ghost use Rattle.partitioned_keyspace.specs.Calls.{countOf, foundOf, coveredOf};
 ghost use Rattle.view_sizes.specs.SizeCalls.{fractionOf, sizeOf};
-ghost use Rattle.bilqarush.specs.Answers.{stopOf, orderOf};
-ghost use Rattle.told.specs.Told.{held, slot, counted, OptionTold};
+ghost use Rattle.bilqarush.specs.Answers.{orderOf};
+ghost use Rattle.told.specs.Told.{held, counted, SlotTold, OptionTold};
 ghost use Rattle.told.specs.Lookups.{testGiven, CoveredTold};
 ghost use Rattle.told.specs.Sizes.{partOf};
 
 pub fn tell_order(c: Compared, order: &mut i8) -> u8
-    ensures { λ r. ⌜ r ≡ stopOf (orderOf c) ⌝ }
-    ensures { λ _. ⌜ now (order .exit) ≡ slot (now (order .entry)) (orderOf c) ⌝ }
+    ensures { λ r. ⌜ SlotTold (orderOf c) (held order) r ⌝ }
 {
     match c {
         Compared::Stop(n) => n,
@@ -35,8 +34,7 @@ pub fn tell_order(c: Compared, order: &mut i8) -> u8
 }
 
 pub fn tell_test(t: Tested, is: &mut bool) -> u8
-    ensures { λ r. ⌜ r ≡ stopOf (testOf t) ⌝ }
-    ensures { λ _. ⌜ now (is .exit) ≡ slot (now (is .entry)) (testOf t) ⌝ }
+    ensures { λ r. ⌜ SlotTold (testOf t) (held is) r ⌝ }
 {
     match t {
         Tested::Stop(n) => n,
@@ -49,8 +47,7 @@ pub fn tell_test(t: Tested, is: &mut bool) -> u8
 
 // How many bytes were written.
 pub fn tell(w: Written, written: &mut usize) -> u8
-    ensures { λ r. ⌜ r ≡ stopOf (counted w) ⌝ }
-    ensures { λ _. ⌜ now (written .exit) ≡ slot (now (written .entry)) (counted w) ⌝ }
+    ensures { λ r. ⌜ SlotTold (counted w) (held written) r ⌝ }
 {
     match w {
         Written::Stop(n) => n,
@@ -72,8 +69,7 @@ pub fn test_given(at_or_below: bool) -> Test
 }
 
 pub fn tell_count(c: Counted, count: &mut usize) -> u8
-    ensures { λ r. ⌜ r ≡ stopOf (countOf c) ⌝ }
-    ensures { λ _. ⌜ now (count .exit) ≡ slot (now (count .entry)) (countOf c) ⌝ }
+    ensures { λ r. ⌜ SlotTold (countOf c) (held count) r ⌝ }
 {
     match c {
         Counted::Stop(n) => n,
@@ -135,8 +131,7 @@ pub fn tell_fraction(s: Shown, part: &mut bool, fraction: &mut f64) -> u8
 }
 
 pub fn tell_size(e: Estimated, size: &mut u64) -> u8
-    ensures { λ r. ⌜ r ≡ stopOf (sizeOf e) ⌝ }
-    ensures { λ _. ⌜ now (size .exit) ≡ slot (now (size .entry)) (sizeOf e) ⌝ }
+    ensures { λ r. ⌜ SlotTold (sizeOf e) (held size) r ⌝ }
 {
     match e {
         Estimated::Stop(n) => n,
