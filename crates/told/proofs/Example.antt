@@ -12,11 +12,15 @@ use Rattle.format.specs.Whole.{whole}
 use Rattle.bytes_range.specs.Prefix.{pointOf}
 use Rattle.bilqarush.specs.Calls.{rangeGiven, rangesGiven, asPointOutcome, intersectOutcome}
 use Rattle.told.specs.Layouts.{pointTo, joinedTo, viewRangeTo}
-use Rattle.told.specs.Example.{PointIsTold, JointIsFound, JointIsTold, ViewRangeIsTold}
+use Rattle.told.specs.Example.{PointIsTold, NoRoomIsTold, JointIsFound, JointIsTold, ViewRangeIsTold}
 
 pub point-is-told : PointIsTold
 unfolding cmpKey cmpNumber digits cmpBound boundsPass readNumber writeNumber readBytes readKey headOf readBound readRange whole pointOf rangeGiven asPointOutcome pointTo
-point-is-told = refl
+point-is-told = record { returns = refl; buffer = refl; count = refl }
+
+pub no-room-is-told : NoRoomIsTold
+unfolding cmpKey cmpNumber digits cmpBound boundsPass readNumber writeNumber readBytes readKey headOf readBound readRange whole pointOf rangeGiven asPointOutcome pointTo
+no-room-is-told = record { returns = refl; buffer = refl; count = refl }
 
 pub joint-is-found : JointIsFound
 unfolding cmpKey cmpNumber digits cmpBound boundsPass startSide endSide intersectSides readNumber readBytes readKey headOf readBound readRange whole rangesGiven intersectOutcome

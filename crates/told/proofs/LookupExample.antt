@@ -26,11 +26,11 @@ use Rattle.told.specs.LookupExample.{CountIsTold, CountBelowIsTold, Part
 -- ---- in an index
 pub count-is-told : CountIsTold
 unfolding cmpKey cmpNumber digits cmpBound readNumber readBytes readKey whole keyGiven readMany block index ascendFrom indexChecks partitionPoint indexAndKey partitionPointOutcome
-count-is-told = refl
+count-is-told = record { returns = refl; answered = refl }
 
 pub count-below-is-told : CountBelowIsTold
 unfolding cmpKey cmpNumber digits cmpBound readNumber readBytes readKey whole keyGiven readMany block index ascendFrom indexChecks partitionPoint indexAndKey partitionPointOutcome
-count-below-is-told = refl
+count-below-is-told = record { returns = refl; answered = refl }
 
 pub partition-is-told : PartitionIsTold
 unfolding cmpKey cmpNumber digits cmpBound readNumber readBytes readKey whole keyGiven readMany block index ascendFrom indexChecks partitionPoint firstPartitionIncludingKey indexAndKey firstPartitionIncludingKeyOutcome
@@ -51,7 +51,7 @@ places-are-told = record { returns = refl; from = refl; to = refl }
 -- ---- in an image
 pub test-is-told : TestIsTold
 unfolding cmpKey cmpNumber digits cmpBound boundsPass startSide endSide intersectSides readNumber readBytes readKey headOf readBound readRange whole readIf readMany flagOf countOf viewCountOf table view run image effective all visiblePasses keysInOrder tablePasses ascendFrom has distinct sizePasses imageChecks askedChecks at imageAndRange overlapsRange overlapsRangeOutcome
-test-is-told = refl
+test-is-told = record { returns = refl; answered = refl }
 
 pub lookup-range-is-found : LookupRangeIsFound
 unfolding cmpKey cmpNumber digits cmpBound boundsPass startHolds endHolds holds startSide endSide intersectSides readNumber readBytes readKey headOf readBound readRange whole joint.intersect readIf readMany flagOf countOf viewCountOf table view run image effective all visiblePasses keysInOrder tablePasses ascendFrom has distinct sizePasses imageChecks askedChecks at imageAndRange startKey compactedIntersection compactedIntersectionOutcome

@@ -17,7 +17,7 @@ use Rattle.visible_size.specs.Steps.{scale, withBytes, keyFraction, commonPrefi
 use Rattle.visible_size.specs.Sizes.{visibleFraction, estimateVisibleSize, estimateRunVisibleSize}
 use Rattle.db_state.specs.Places.{at, viewAt, viewGiven}
 use Rattle.view_sizes.specs.SizeCalls.{visibleFractionOutcome, estimateVisibleSizeOutcome, estimateRunVisibleSizeOutcome}
-use Rattle.told.specs.SizeExample.{PartIsTold, WholeIsTold, FractionStopIsTold, SizeIsTold, RunSizeIsTold, WholeSizeIsTold, SizeStopIsReturned, SizeStopIsTold, RunSizeStopIsReturned, RunSizeStopIsTold}
+use Rattle.told.specs.SizeExample.{PartIsTold, WholeIsTold, FractionStopIsTold, SizeIsTold, RunSizeIsTold, WholeSizeIsTold, SizeStopIsTold, RunSizeStopIsTold}
 
 -- ---- the fraction
 pub part-is-told : PartIsTold
@@ -35,28 +35,20 @@ fraction-stop-is-told = record { returns = refl; flag = refl; answered = refl }
 -- ---- the size
 pub size-is-told : SizeIsTold
 unfolding cmpKey cmpNumber digits cmpBound boundsPass startSide endSide intersectSides readNumber readBytes readKey headOf readBound readRange whole readIf readMany flagOf countOf viewCountOf table view run image effective all visiblePasses keysInOrder tablePasses ascendFrom has distinct sizePasses imageChecks imageGiven at viewAt viewGiven ofBits round add sub mul div lt eq ofInt cmpRange scale withBytes keyFraction commonPrefixLen rangeLen lengthsFraction sameRange rangesFraction visibleFraction roundHalfAway visibleSize toUnsigned estimateVisibleSize estimateVisibleSizeOutcome
-size-is-told = refl
+size-is-told = record { returns = refl; answered = refl }
 
 pub run-size-is-told : RunSizeIsTold
 unfolding cmpKey cmpNumber digits cmpBound boundsPass startSide endSide intersectSides readNumber readBytes readKey headOf readBound readRange whole readIf readMany flagOf countOf viewCountOf table view run image effective all visiblePasses keysInOrder tablePasses ascendFrom has distinct sizePasses imageChecks imageGiven at ofBits round add sub mul div lt eq ofInt cmpRange scale withBytes keyFraction commonPrefixLen rangeLen lengthsFraction sameRange rangesFraction visibleFraction roundHalfAway visibleSize toUnsigned estimateVisibleSize estimateRunVisibleSize estimateRunVisibleSizeOutcome
-run-size-is-told = refl
+run-size-is-told = record { returns = refl; answered = refl }
 
 pub whole-size-is-told : WholeSizeIsTold
 unfolding cmpKey cmpNumber digits cmpBound boundsPass startSide endSide intersectSides readNumber readBytes readKey headOf readBound readRange whole readIf readMany flagOf countOf viewCountOf table view run image effective all visiblePasses keysInOrder tablePasses ascendFrom has distinct sizePasses imageChecks imageGiven at viewAt viewGiven estimateVisibleSize estimateVisibleSizeOutcome
-whole-size-is-told = refl
-
-pub size-stop-is-returned : SizeStopIsReturned
-unfolding readNumber whole image imageGiven viewGiven estimateVisibleSizeOutcome
-size-stop-is-returned = refl
+whole-size-is-told = record { returns = refl; answered = refl }
 
 pub size-stop-is-told : SizeStopIsTold
 unfolding readNumber whole image imageGiven viewGiven estimateVisibleSizeOutcome
-size-stop-is-told = refl
-
-pub run-size-stop-is-returned : RunSizeStopIsReturned
-unfolding cmpKey cmpNumber digits cmpBound boundsPass startSide endSide intersectSides readNumber readBytes readKey headOf readBound readRange whole readIf readMany flagOf countOf viewCountOf table view run image effective all visiblePasses keysInOrder tablePasses ascendFrom has distinct sizePasses imageChecks imageGiven at estimateRunVisibleSizeOutcome
-run-size-stop-is-returned = refl
+size-stop-is-told = record { returns = refl; answered = refl }
 
 pub run-size-stop-is-told : RunSizeStopIsTold
 unfolding cmpKey cmpNumber digits cmpBound boundsPass startSide endSide intersectSides readNumber readBytes readKey headOf readBound readRange whole readIf readMany flagOf countOf viewCountOf table view run image effective all visiblePasses keysInOrder tablePasses ascendFrom has distinct sizePasses imageChecks imageGiven at estimateRunVisibleSizeOutcome
-run-size-stop-is-told = refl
+run-size-stop-is-told = record { returns = refl; answered = refl }

@@ -12,15 +12,27 @@ use Rattle.bilqarush.specs.Answers.{pointAt}
 use Rattle.bilqarush.specs.Example.{exampleRange}
 use Rattle.format.specs.declared.span.Joined.{Joined}
 use Rattle.format.specs.declared.span.Joined.the-variants.{Range}
+use Rattle.told.specs.Told.{fromTo, Told}
 use Rattle.told.specs.Layouts.{pointTo, joinedTo, viewRangeTo}
 
 -- ---- a point: 1, the place, the length
 abbrev pub abToAb : List ℕ
 abToAb = 80 ∷ 0 ∷ 2 ∷ 97 ∷ 98 ∷ 0 ∷ 2 ∷ 97 ∷ 98 ∷ []
 
+abbrev pub sixteenNines : List ℕ
+sixteenNines = 9 ∷ 9 ∷ 9 ∷ 9 ∷ 9 ∷ 9 ∷ 9 ∷ 9 ∷ 9 ∷ 9 ∷ 9 ∷ 9 ∷ 9 ∷ 9 ∷ 9 ∷ 9 ∷ []
+
+-- 17 bytes of 18: the last stays
 abbrev pub PointIsTold : Type 0
 PointIsTold =
-    pointTo 17 (pointAt (asPointOutcome abToAb)) ≡ answer (1 ∷ 0 ∷ 0 ∷ 0 ∷ 0 ∷ 0 ∷ 0 ∷ 0 ∷ 3 ∷ 0 ∷ 0 ∷ 0 ∷ 0 ∷ 0 ∷ 0 ∷ 0 ∷ 2 ∷ [])
+    Told (pointTo 18 (pointAt (asPointOutcome abToAb)))
+    (fromTo (9 ∷ 9 ∷ sixteenNines) (1 ∷ 0 ∷ 0 ∷ 0 ∷ 0 ∷ 0 ∷ 0 ∷ 0 ∷ 3 ∷ 0 ∷ 0 ∷ 0 ∷ 0 ∷ 0 ∷ 0 ∷ 0 ∷ 2 ∷ 9 ∷ []))
+    (fromTo 7 17)
+    0
+
+-- in 16 bytes there is no room: stop 16, and buffer and slot are left
+abbrev pub NoRoomIsTold : Type 0
+NoRoomIsTold = Told (pointTo 16 (pointAt (asPointOutcome abToAb))) (fromTo sixteenNines sixteenNines) (fromTo 7 7) 16
 
 -- ---- a range: 1; then of each bound the kind, the slice, the place and the length
 abbrev pub abToM : List ℕ

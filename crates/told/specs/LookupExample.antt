@@ -13,7 +13,7 @@ use Rattle.format.specs.declared.span.Joined.the-variants.{Range}
 use Rattle.partitioned_keyspace.specs.Calls.{partitionPointOutcome, firstPartitionIncludingKeyOutcome, lastPartitionIncludingKeyOutcome, partitionsCoveringRangeOutcome}
 use Rattle.db_state.specs.LookupCalls.{overlapsRangeOutcome, compactedIntersectionOutcome}
 use Rattle.bilqarush.specs.Example.{exampleImage}
-use Rattle.told.specs.Told.{fromTo, slot, OptionTold}
+use Rattle.told.specs.Told.{fromTo, SlotTold, OptionTold}
 use Rattle.told.specs.Lookups.{testGiven, CoveredTold}
 use Rattle.told.specs.Layouts.{joinedTo}
 
@@ -23,10 +23,10 @@ bAndD = 0 ∷ 2 ∷ 0 ∷ 0 ∷ 0 ∷ 0 ∷ 0 ∷ 0 ∷ 0 ∷ 0 ∷ 0 ∷ 1 ∷ 
 
 -- both first keys are at or below d, and one is below it
 abbrev pub CountIsTold : Type 0
-CountIsTold = slot 7 (partitionPointOutcome bAndD (testGiven true) (100 ∷ [])) ≡ 2
+CountIsTold = SlotTold (partitionPointOutcome bAndD (testGiven true) (100 ∷ [])) (fromTo 7 2) 0
 
 abbrev pub CountBelowIsTold : Type 0
-CountBelowIsTold = slot 7 (partitionPointOutcome bAndD (testGiven false) (100 ∷ [])) ≡ 1
+CountBelowIsTold = SlotTold (partitionPointOutcome bAndD (testGiven false) (100 ∷ [])) (fromTo 7 1) 0
 
 -- c may be in the partition that starts with b
 abbrev pub PartitionIsTold : Type 0
@@ -49,7 +49,7 @@ PlacesAreTold = CoveredTold (partitionsCoveringRangeOutcome bAndD fromC) (fromTo
 
 -- ---- document 01's image
 abbrev pub TestIsTold : Type 0
-TestIsTold = slot true (overlapsRangeOutcome exampleImage 0 (16 ∷ 0 ∷ 1 ∷ 65 ∷ [])) ≡ false
+TestIsTold = SlotTold (overlapsRangeOutcome exampleImage 0 (16 ∷ 0 ∷ 1 ∷ 65 ∷ [])) (fromTo true false) 0
 
 -- its first view from b up to the second view, [b,d): the asked range supplies the start, the image the end
 abbrev pub fromB : List ℕ

@@ -1,13 +1,11 @@
 -- Each answer on visible sizes, once in bytes, as a call for C tells it: of run 7 with one view, of a table with keys from 00 to
 -- 80 and a raw size of 5. Every number's slot holds 7 before.
 use Prim.Native.Nat.{ℕ}
-use mathlib.Core.Path.{_≡_}
 use mathlib.Core.Bool.{true, false}
 use mathlib.Core.List.{List, [], _∷_, _++_}
 use lib.Ieee.{Float, binary64, ofBits}
 use Rattle.view_sizes.specs.SizeCalls.{visibleFractionOutcome, estimateVisibleSizeOutcome, estimateRunVisibleSizeOutcome}
-use Rattle.bilqarush.specs.Answers.{stopOf}
-use Rattle.told.specs.Told.{fromTo, slot, OptionTold}
+use Rattle.told.specs.Told.{fromTo, SlotTold, OptionTold}
 use Rattle.told.specs.Sizes.{partOf}
 
 -- ---- the image up to the view's visible flag
@@ -47,23 +45,17 @@ FractionStopIsTold = OptionTold (partOf (visibleFractionOutcome [] 0 0)) (fromTo
 
 -- ---- the size: half of 5, rounded away from zero
 abbrev pub SizeIsTold : Type 0
-SizeIsTold = slot 7 (estimateVisibleSizeOutcome halfShown 0 0) ≡ 3
+SizeIsTold = SlotTold (estimateVisibleSizeOutcome halfShown 0 0) (fromTo 7 3) 0
 
 abbrev pub RunSizeIsTold : Type 0
-RunSizeIsTold = slot 7 (estimateRunVisibleSizeOutcome halfShown 0) ≡ 3
+RunSizeIsTold = SlotTold (estimateRunVisibleSizeOutcome halfShown 0) (fromTo 7 3) 0
 
 abbrev pub WholeSizeIsTold : Type 0
-WholeSizeIsTold = slot 7 (estimateVisibleSizeOutcome allShown 0 0) ≡ 5
-
-abbrev pub SizeStopIsReturned : Type 0
-SizeStopIsReturned = stopOf (estimateVisibleSizeOutcome [] 0 0) ≡ 1
+WholeSizeIsTold = SlotTold (estimateVisibleSizeOutcome allShown 0 0) (fromTo 7 5) 0
 
 abbrev pub SizeStopIsTold : Type 0
-SizeStopIsTold = slot 7 (estimateVisibleSizeOutcome [] 0 0) ≡ 7
+SizeStopIsTold = SlotTold (estimateVisibleSizeOutcome [] 0 0) (fromTo 7 7) 1
 
 -- the run at place 1 is not there
-abbrev pub RunSizeStopIsReturned : Type 0
-RunSizeStopIsReturned = stopOf (estimateRunVisibleSizeOutcome halfShown 1) ≡ 9
-
 abbrev pub RunSizeStopIsTold : Type 0
-RunSizeStopIsTold = slot 7 (estimateRunVisibleSizeOutcome halfShown 1) ≡ 7
+RunSizeStopIsTold = SlotTold (estimateRunVisibleSizeOutcome halfShown 1) (fromTo 7 7) 9
