@@ -6,7 +6,9 @@ mod sizes;
 
 ghost use mathlib.Core.Path.{_≡_};
 ghost use lib.ListN.{length};
-ghost use Rattle.bilqarush.specs.Calls.{compareOutcome, cmpBoundOutcome, nonEmptyOutcome, containsOutcome, asPointOutcome, intersectOutcome, intersectStartKeyOutcome, intersectEndKeyOutcome, unionOutcome, fromPrefixOutcome, fromPrefixAndSubrangeOutcome};
+ghost use Rattle.bilqarush.specs.Calls.{compareOutcome, cmpBoundOutcome, nonEmptyOutcome, containsOutcome, asPointOutcome};
+ghost use Rattle.bilqarush.specs.Calls.{intersectOutcome, intersectStartKeyOutcome, intersectEndKeyOutcome, unionOutcome};
+ghost use Rattle.bilqarush.specs.Calls.{fromPrefixOutcome, fromPrefixAndSubrangeOutcome};
 ghost use Rattle.bilqarush.specs.Answers.{pointAt};
 ghost use Rattle.told.specs.Told.{held, SlotTold, Told};
 ghost use Rattle.told.specs.Layouts.{pointTo, keyTo, JointTold};

@@ -1,6 +1,8 @@
 // The lookups in an index for C.
 ghost use mathlib.Core.Path.{_≡_};
-ghost use Rattle.partitioned_keyspace.specs.Calls.{partitionPointOutcome, firstPartitionIncludingKeyOutcome, firstPartitionIncludingOrAfterKeyOutcome, lastPartitionIncludingKeyOutcome, partitionsCoveringRangeOutcome};
+ghost use Rattle.partitioned_keyspace.specs.Calls.{partitionPointOutcome, firstPartitionIncludingKeyOutcome};
+ghost use Rattle.partitioned_keyspace.specs.Calls.{firstPartitionIncludingOrAfterKeyOutcome, lastPartitionIncludingKeyOutcome};
+ghost use Rattle.partitioned_keyspace.specs.Calls.{partitionsCoveringRangeOutcome};
 ghost use Rattle.told.specs.Told.{held, SlotTold, OptionTold};
 ghost use Rattle.told.specs.Lookups.{testGiven, CoveredTold};
 

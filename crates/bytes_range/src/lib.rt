@@ -6,13 +6,12 @@ use comparable_range::Kind;
 ghost use mathlib.Core.Path.{_≡_};
 ghost use Prim.Native.Nat.{_≤_, _<_, _+_, _-_};
 ghost use lib.ListN.{length, getD, take, drop};
-ghost use mathlib.Core.Bool.{true};
 ghost use Rattle.base.specs.Outcome.{reported, lent, writtenTo};
 ghost use Rattle.base.specs.Splice.{splice};
 ghost use Rattle.comparable_range.specs.Range.{unbounded, boundOf, rangeOf};
-ghost use Rattle.format.specs.Range.{kindOfBound, writeBound, writeRange};
-ghost use Rattle.bytes_range.specs.Prefix.{keptOf, joinStart, joinEnd, fromPrefixAndSubrange, asPoint};
-ghost use Rattle.bytes_range.specs.Writing.{allFF, keptFor, joinsWithin, pointIf};
+ghost use Rattle.format.specs.Range.{kindOfBound, writeBound};
+ghost use Rattle.bytes_range.specs.Prefix.{keptOf, joinStart, joinEnd, asPoint};
+ghost use Rattle.bytes_range.specs.Writing.{allFF, keptFor, joinsWithin, Joins, startBytes, endBytes, rangeBytes, pointIf};
 ghost use Rattle.bytes_range.specs.Laws.{leavesNone};
 
 // Whether the eight bytes from i are all FF. Their number tells, which the compiler reads by one load.
@@ -136,8 +135,8 @@ fn end_kind(p: &[u8], k: Kind, e: &[u8], n: usize) -> Kind
 
 // How many bytes a start takes that follows a prefix.
 fn start_size(p: &[u8], k: Kind, s: &[u8]) -> usize
-    requires { ⌜ length (now p) ≤ 1024 ⌝ ∗ ⌜ joinsWithin (now p) (boundOf k (now s)) ≡ true ⌝ }
-    ensures { λ r. ⌜ r ≡ length (writeBound (joinStart (now (p .entry)) (boundOf k (now (s .entry))))) ⌝ }
+    requires { ⌜ length (now p) ≤ 1024 ⌝ ∗ ⌜ Joins (now p) k (now s) ⌝ }
+    ensures { λ r. ⌜ r ≡ length (startBytes (now (p .entry)) k (now (s .entry))) ⌝ }
     ensures { λ r. ⌜ r ≤ 1026 ⌝ }
 {
     match k {
@@ -154,8 +153,8 @@ fn start_size(p: &[u8], k: Kind, s: &[u8]) -> usize
 
 // How many bytes an end takes that follows a prefix.
 fn end_size(p: &[u8], k: Kind, e: &[u8], n: usize) -> usize
-    requires { ⌜ n ≡ keptFor k (now p) ⌝ ∗ ⌜ length (now p) ≤ 1024 ⌝ ∗ ⌜ joinsWithin (now p) (boundOf k (now e)) ≡ true ⌝ }
-    ensures { λ r. ⌜ r ≡ length (writeBound (joinEnd (now (p .entry)) (boundOf k (now (e .entry))))) ⌝ }
+    requires { ⌜ n ≡ keptFor k (now p) ⌝ ∗ ⌜ length (now p) ≤ 1024 ⌝ ∗ ⌜ Joins (now p) k (now e) ⌝ }
+    ensures { λ r. ⌜ r ≡ length (endBytes (now (p .entry)) k (now (e .entry))) ⌝ }
     ensures { λ r. ⌜ r ≤ 1026 ⌝ }
 {
     match k {
@@ -172,9 +171,9 @@ fn end_size(p: &[u8], k: Kind, e: &[u8], n: usize) -> usize
 
 // Writes a start that follows a prefix; answers the place past it.
 fn put_start(out: &mut [u8], at: usize, p: &[u8], k: Kind, s: &[u8]) -> usize
-    requires { ⌜ length (now p) ≤ 1024 ⌝ ∗ ⌜ joinsWithin (now p) (boundOf k (now s)) ≡ true ⌝ ∗ ⌜ at + length (writeBound (joinStart (now p) (boundOf k (now s)))) ≤ length (now out) ⌝ }
-    ensures { λ r. ⌜ r ≡ at + length (writeBound (joinStart (now (p .entry)) (boundOf k (now (s .entry))))) ⌝ }
-    ensures { λ r. ⌜ now (out .exit) ≡ splice (now (out .entry)) at (writeBound (joinStart (now (p .entry)) (boundOf k (now (s .entry))))) ⌝ }
+    requires { ⌜ length (now p) ≤ 1024 ⌝ ∗ ⌜ Joins (now p) k (now s) ⌝ ∗ ⌜ at + length (startBytes (now p) k (now s)) ≤ length (now out) ⌝ }
+    ensures { λ r. ⌜ r ≡ at + length (startBytes (now (p .entry)) k (now (s .entry))) ⌝ }
+    ensures { λ r. ⌜ now (out .exit) ≡ splice (now (out .entry)) at (startBytes (now (p .entry)) k (now (s .entry))) ⌝ }
 {
     match k {
         Kind::Unbounded => {
@@ -208,9 +207,9 @@ fn put_next(out: &mut [u8], at: usize, p: &[u8], n: usize) -> usize
 
 // Writes an end that follows a prefix; answers the place past it.
 fn put_end(out: &mut [u8], at: usize, p: &[u8], k: Kind, e: &[u8], n: usize) -> usize
-    requires { ⌜ n ≡ keptFor k (now p) ⌝ ∗ ⌜ length (now p) ≤ 1024 ⌝ ∗ ⌜ joinsWithin (now p) (boundOf k (now e)) ≡ true ⌝ ∗ ⌜ at + length (writeBound (joinEnd (now p) (boundOf k (now e)))) ≤ length (now out) ⌝ }
-    ensures { λ r. ⌜ r ≡ at + length (writeBound (joinEnd (now (p .entry)) (boundOf k (now (e .entry))))) ⌝ }
-    ensures { λ r. ⌜ now (out .exit) ≡ splice (now (out .entry)) at (writeBound (joinEnd (now (p .entry)) (boundOf k (now (e .entry))))) ⌝ }
+    requires { ⌜ n ≡ keptFor k (now p) ⌝ ∗ ⌜ length (now p) ≤ 1024 ⌝ ∗ ⌜ Joins (now p) k (now e) ⌝ ∗ ⌜ at + length (endBytes (now p) k (now e)) ≤ length (now out) ⌝ }
+    ensures { λ r. ⌜ r ≡ at + length (endBytes (now (p .entry)) k (now (e .entry))) ⌝ }
+    ensures { λ r. ⌜ now (out .exit) ≡ splice (now (out .entry)) at (endBytes (now (p .entry)) k (now (e .entry))) ⌝ }
 {
     match k {
         Kind::Unbounded => {
@@ -226,8 +225,8 @@ fn put_end(out: &mut [u8], at: usize, p: &[u8], k: Kind, e: &[u8], n: usize) -> 
 
 // Writes the range of a prefix and a subrange to the front of a buffer.
 fn write_range(out: &mut [u8], p: &[u8], ks: Kind, s: &[u8], ke: Kind, e: &[u8], n: usize)
-    requires { ⌜ n ≡ keptFor ke (now p) ⌝ ∗ ⌜ length (now p) ≤ 1024 ⌝ ∗ ⌜ joinsWithin (now p) (boundOf ks (now s)) ≡ true ⌝ ∗ ⌜ joinsWithin (now p) (boundOf ke (now e)) ≡ true ⌝ ∗ ⌜ length (writeRange (fromPrefixAndSubrange (now p) (rangeOf ks (now s) ke (now e)))) ≤ length (now out) ⌝ }
-    ensures { λ _. ⌜ now (out .exit) ≡ splice (now (out .entry)) 0 (writeRange (fromPrefixAndSubrange (now (p .entry)) (rangeOf ks (now (s .entry)) ke (now (e .entry))))) ⌝ }
+    requires { ⌜ n ≡ keptFor ke (now p) ⌝ ∗ ⌜ length (now p) ≤ 1024 ⌝ ∗ ⌜ Joins (now p) ks (now s) ⌝ ∗ ⌜ Joins (now p) ke (now e) ⌝ ∗ ⌜ length (rangeBytes (now p) ks (now s) ke (now e)) ≤ length (now out) ⌝ }
+    ensures { λ _. ⌜ now (out .exit) ≡ splice (now (out .entry)) 0 (rangeBytes (now (p .entry)) ks (now (s .entry)) ke (now (e .entry))) ⌝ }
 {
     let head = format::head_byte(start_kind(p, ks, s), end_kind(p, ke, e, n));
     format::put_byte(out, 0, head);
@@ -244,9 +243,9 @@ pub fn from_prefix_and_subrange(
     e: &[u8],
     out: &mut [u8],
 ) -> Written
-    requires { ⌜ length (now p) ≤ 1024 ⌝ ∗ ⌜ joinsWithin (now p) (boundOf ks (now s)) ≡ true ⌝ ∗ ⌜ joinsWithin (now p) (boundOf ke (now e)) ≡ true ⌝ }
-    ensures { λ r. ⌜ r ≡ reported (writtenTo (length (now (out .entry))) (writeRange (fromPrefixAndSubrange (now (p .entry)) (rangeOf ks (now (s .entry)) ke (now (e .entry)))))) ⌝ }
-    ensures { λ r. ⌜ now (out .exit) ≡ lent (now (out .entry)) (writtenTo (length (now (out .entry))) (writeRange (fromPrefixAndSubrange (now (p .entry)) (rangeOf ks (now (s .entry)) ke (now (e .entry)))))) ⌝ }
+    requires { ⌜ length (now p) ≤ 1024 ⌝ ∗ ⌜ Joins (now p) ks (now s) ⌝ ∗ ⌜ Joins (now p) ke (now e) ⌝ }
+    ensures { λ r. ⌜ r ≡ reported (writtenTo (length (now (out .entry))) (rangeBytes (now (p .entry)) ks (now (s .entry)) ke (now (e .entry)))) ⌝ }
+    ensures { λ r. ⌜ now (out .exit) ≡ lent (now (out .entry)) (writtenTo (length (now (out .entry))) (rangeBytes (now (p .entry)) ks (now (s .entry)) ke (now (e .entry)))) ⌝ }
 {
     let n = kept_for(p, ke);
     let size = 1 + start_size(p, ks, s) + end_size(p, ke, e, n);

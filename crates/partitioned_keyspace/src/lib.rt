@@ -15,7 +15,10 @@ use format::RangeRead;
 ghost use mathlib.Core.Path.{_≡_};
 ghost use Rattle.base.specs.Outcome.{answer, andThen};
 ghost use Rattle.partitioned_keyspace.specs.Asked.{indexAndKey};
-ghost use Rattle.partitioned_keyspace.specs.Calls.{partitionPointOutcome, firstPartitionIncludingKeyOutcome, firstPartitionIncludingOrAfterKeyOutcome, lastPartitionIncludingKeyOutcome, partitionsCoveringRangeOutcome, countOf, foundOf, coveredOf};
+ghost use Rattle.partitioned_keyspace.specs.Calls.{partitionPointOutcome, firstPartitionIncludingKeyOutcome};
+ghost use Rattle.partitioned_keyspace.specs.Calls.{firstPartitionIncludingOrAfterKeyOutcome};
+ghost use Rattle.partitioned_keyspace.specs.Calls.{lastPartitionIncludingKeyOutcome, partitionsCoveringRangeOutcome};
+ghost use Rattle.partitioned_keyspace.specs.Calls.{countOf, foundOf, coveredOf};
 ghost use Rattle.partitioned_keyspace.specs.KeyPoints.{pointOf, pointedOf};
 
 // The tests of `partition_point`.
