@@ -14,15 +14,13 @@ use Rattle.records.specs.Form.{readMany}
 use Rattle.records.specs.Found.{isGot, valuesOf}
 use Rattle.records.specs.Values.{View, Run}
 use Rattle.records.specs.Layouts.{view, run}
-use Rattle.records.specs.Spans.{viewIn, ViewInside, ViewFound, runHead, RunFound}
+use Rattle.records.specs.Spans.{viewIn, ViewInside, runHead}
+use Rattle.records.specs.There.{ViewThere, RunThere}
 use Rattle.records.specs.declared.views.ViewSpan.{ViewSpan}
-use Rattle.records.specs.declared.views.ViewRead.{ViewRead}
-use Rattle.records.specs.declared.views.ViewRead.the-variants.{At as ViewAt, Stop as ViewStop}
-use Rattle.records.specs.declared.runs.RunRead.{RunRead}
-use Rattle.records.specs.declared.runs.RunRead.the-variants.{At as RunAt, Stop as RunStop}
+use Rattle.records.specs.declared.there.RunSpan.{RunSpan}
 use Rattle.records.proofs.HeadExits.{runOf}
-use Rattle.records.proofs.Walk.{Walk, walk-begin, walk-all, walk-never, walk-here, walk-ahead, walk-onward, walk-front}
-use Rattle.records.proofs.RunsThere.{run-stops, views-place, views-there, run-past, views-most, run-here}
+use Rattle.records.proofs.Walk.{Walk, walk-begin, walk-all, walk-here, walk-ahead, walk-onward, walk-front}
+use Rattle.records.proofs.RunsThere.{head-got, there-views, there-past, there-most, there-here}
 use Rattle.listing.specs.Listing.{line, lines, runLines}
 use Rattle.listing.specs.Spans.{ReachedPast}
 use Rattle.listing.specs.declared.Reached.{Reached}
@@ -62,13 +60,13 @@ module _ {s : List ℕ} {from n id place at to : ℕ} (p : ViewsLen s from n id 
   pub views-len-bound : to ≤ 268516352
   views-len-bound = omega (arith, p .bound, p .most, p .walk .upto)
 
-  module _ (h : place < n) {r : ViewRead} (f : ViewFound s (view .read (drop at s)) r) where
-    pub views-len-never : {k : ℕ} → r ≡ ViewStop k → ReachedPast s (readMany (view .read) n (drop from s)) 0 (lines id 0 (valuesOf (readMany (view .read) n (drop from s)))) (reached at to)
-    views-len-never {k} q = absurd (walk-never (p .walk) h {j = k} (sym (f .meaning) ∙ rw q))
+  module _ (h : place < n) where
+    pub views-len-here : T (isGot (view .read (drop at s)))
+    views-len-here = walk-here (p .walk) h
 
-    module _ {v : ViewSpan} (q : r ≡ ViewAt v) where
+    module _ {v : ViewSpan} (f : ViewThere s (view .read (drop at s)) v) where
       pub views-len-inside : ViewInside s v
-      views-len-inside = rw q at (f .inside)
+      views-len-inside = f .inside
 
       module _ {l : ℕ} (e : (l ≡ length (line id place (viewIn s v))) × (l ≤ 262223)) where
         pub views-len-fits : Fits w64 (to + l)
@@ -78,13 +76,13 @@ module _ {s : List ℕ} {from n id place at to : ℕ} (p : ViewsLen s from n id 
         views-len-onward =
             record {
               seen = p .seen ++ (viewIn s v ∷ []);
-              walk = walk-onward (p .walk) h (sym (f .meaning) ∙ rw q) ((rw q at (f .inside)) .past);
+              walk = walk-onward (p .walk) h (f .meaning) (f .inside .past);
               most = p .most;
               long = sym (ap length (lines-more id place (p .seen) (viewIn s v) (p .walk .count)) ∙ rw (length-append, ← (p .long), ← (e .0)));
               bound = omega (arith, p .bound, e .1);
             }
 
-pub ruleset views-len-exits = (views-len-begin, views-len-at, views-len-end, views-len-bound, views-len-never, views-len-inside, views-len-fits, views-len-onward)
+pub ruleset views-len-exits = (views-len-begin, views-len-at, views-len-end, views-len-bound, views-len-here, views-len-inside, views-len-fits, views-len-onward)
 
 -- ---- runs_len
 pub record RunsLen (s : List ℕ) (from n k at to : ℕ) : Type 0 where
@@ -108,36 +106,36 @@ module _ {s : List ℕ} {from n k at to : ℕ} (p : RunsLen s from n k at to) wh
   pub runs-len-bound : to ≤ 17185046528
   runs-len-bound = omega (arith, p .bound, p .most, p .walk .upto)
 
-  module _ (h : k < n) {r : RunRead} (f : RunFound s (runHead .read (drop at s)) r) where
-    pub runs-len-never : {j : ℕ} → r ≡ RunStop j → to ≡ length (runLines (valuesOf (readMany (run .read) n (drop from s))))
-    runs-len-never {j} q = absurd (walk-never (p .walk) h {j = j} (run-stops s at f q))
+  module _ (h : k < n) where
+    pub runs-len-here : T (isGot (runHead .read (drop at s)))
+    runs-len-here = head-got s at (walk-here (p .walk) h)
 
-    module _ {i m next : ℕ} (q : r ≡ RunAt i m next) where
-      pub runs-len-from : next ≤ length s
-      runs-len-from = views-place s at f q
+    module _ {r : RunSpan} (f : RunThere s (runHead .read (drop at s)) r) where
+      pub runs-len-from : r .first ≤ length s
+      runs-len-from = f .inside
 
-      pub runs-len-views : m ≤ 1024
-      runs-len-views = views-most s at f q
+      pub runs-len-views : r .views ≤ 1024
+      runs-len-views = there-most s at f
 
-      pub runs-len-there : T (isGot (readMany (view .read) m (drop next s)))
-      runs-len-there = views-there s at f q (walk-here (p .walk) h)
+      pub runs-len-there : T (isGot (readMany (view .read) (r .views) (drop (r .first) s)))
+      runs-len-there = there-views s at f (walk-here (p .walk) h)
 
-      module _ {w : Reached} (x : ReachedPast s (readMany (view .read) m (drop next s)) 0 (lines i 0 (valuesOf (readMany (view .read) m (drop next s)))) w) (b : w .to ≤ 268516352) where
+      module _ {w : Reached} (x : ReachedPast s (readMany (view .read) (r .views) (drop (r .first) s)) 0 (lines (r .id) 0 (valuesOf (readMany (view .read) (r .views) (drop (r .first) s)))) w) (b : w .to ≤ 268516352) where
         pub runs-len-fits : Fits w64 (to + w .to)
         runs-len-fits = omega (arith, p .bound, p .most, p .walk .upto, b)
 
         pub runs-len-onward : RunsLen s from n (k + 1) (w .next) (to + w .to)
         runs-len-onward =
-            let vs = valuesOf (readMany (view .read) m (drop next s)) in
+            let vs = valuesOf (readMany (view .read) (r .views) (drop (r .first) s)) in
             record {
-              seen = p .seen ++ (runOf i vs ∷ []);
-              walk = walk-onward (p .walk) h (run-past s at f q (w .next) (x .is)) (x .inside);
+              seen = p .seen ++ (runOf (r .id) vs ∷ []);
+              walk = walk-onward (p .walk) h (there-past s at f (w .next) (x .is)) (x .inside);
               most = p .most;
-              long = sym (ap length (run-lines-more (p .seen) (runOf i vs)) ∙ rw (length-append, ← (p .long)) (omega (arith, x .long)));
+              long = sym (ap length (run-lines-more (p .seen) (runOf (r .id) vs)) ∙ rw (length-append, ← (p .long)) (omega (arith, x .long)));
               bound = omega (arith, p .bound, b);
             }
 
-pub ruleset runs-len-exits = (runs-len-begin, runs-len-at, runs-len-end, runs-len-bound, runs-len-never, runs-len-from, runs-len-views, runs-len-there, runs-len-fits, runs-len-onward)
+pub ruleset runs-len-exits = (runs-len-begin, runs-len-at, runs-len-end, runs-len-bound, runs-len-here, runs-len-from, runs-len-views, runs-len-there, runs-len-fits, runs-len-onward)
 
 -- ---- put_views
 pub record ViewsPut (s : List ℕ) (from n id : ℕ) (d : List ℕ) (first : ℕ) (out : List ℕ) (place at to : ℕ) : Type 0 where
@@ -173,20 +171,17 @@ module _ {s : List ℕ} {from n id : ℕ} {d : List ℕ} {first : ℕ} {out : Li
   pub views-put-is : n ≤ place → out ≡ splice d first (lines id 0 (valuesOf (readMany (view .read) n (drop from s))))
   views-put-is h = p .is ∙ rw (walk-all (p .walk) h)
 
-  module _ (h : place < n) {r : ViewRead} (f : ViewFound s (view .read (drop at s)) r) where
-    pub views-put-never : {k : ℕ} → r ≡ ViewStop k → ReachedPast s (readMany (view .read) n (drop from s)) first (lines id 0 (valuesOf (readMany (view .read) n (drop from s)))) (reached at to)
-    views-put-never {k} q = absurd (walk-never (p .walk) h {j = k} (sym (f .meaning) ∙ rw q))
+  module _ (h : place < n) where
+    pub views-put-here : T (isGot (view .read (drop at s)))
+    views-put-here = walk-here (p .walk) h
 
-    pub views-put-none : {k : ℕ} → r ≡ ViewStop k → out ≡ splice d first (lines id 0 (valuesOf (readMany (view .read) n (drop from s))))
-    views-put-none {k} q = absurd (walk-never (p .walk) h {j = k} (sym (f .meaning) ∙ rw q))
-
-    module _ {v : ViewSpan} (q : r ≡ ViewAt v) where
+    module _ {v : ViewSpan} (f : ViewThere s (view .read (drop at s)) v) where
       pub views-put-inside : ViewInside s v
-      views-put-inside = rw q at (f .inside)
+      views-put-inside = f .inside
 
       fits : first + length (lines id 0 (p .seen)) + length (line id place (viewIn s v)) ≤ length d
       fits =
-          let a = walk-ahead (p .walk) h {a = viewIn s v} (drop (v .past) s) (sym (f .meaning) ∙ rw q) in
+          let a = walk-ahead (p .walk) h {a = viewIn s v} (drop (v .past) s) (f .meaning) in
           let b : length (lines id 0 (p .seen)) + length (line id place (viewIn s v)) ≤ length (lines id 0 (valuesOf (readMany (view .read) n (drop from s)))) = rw (a .all) (line-within id place (p .seen) (viewIn s v) (a .tail) (p .walk .count)) in
           omega (arith, p .room)
 
@@ -202,13 +197,13 @@ module _ {s : List ℕ} {from n id : ℕ} {d : List ℕ} {first : ℕ} {out : Li
           let more = lines-more id place (p .seen) (viewIn s v) (p .walk .count) in
           record {
             seen = p .seen ++ (viewIn s v ∷ []);
-            walk = walk-onward (p .walk) h (sym (f .meaning) ∙ rw q) ((rw q at (f .inside)) .past);
+            walk = walk-onward (p .walk) h (f .meaning) (f .inside .past);
             room = p .room;
             long = t ∙ rw (p .long, more, length-append) (omega arith);
             is = o ∙ ap (λ l. splice l to (line id place (viewIn s v))) (p .is) ∙ splice-splice d first (lines id 0 (p .seen)) (line id place (viewIn s v)) to (p .long) (omega (arith, fits)) ∙ ap (splice d first) (sym more);
           }
 
-pub ruleset views-put-exits = (views-put-begin, views-put-at, views-put-length, views-put-end, views-put-is, views-put-never, views-put-none, views-put-inside, views-put-room, views-put-onward)
+pub ruleset views-put-exits = (views-put-begin, views-put-at, views-put-length, views-put-end, views-put-is, views-put-here, views-put-inside, views-put-room, views-put-onward)
 
 -- ---- put_runs
 pub record RunsPut (s : List ℕ) (from n : ℕ) (d : List ℕ) (first : ℕ) (out : List ℕ) (k at to : ℕ) : Type 0 where
@@ -241,42 +236,42 @@ module _ {s : List ℕ} {from n : ℕ} {d : List ℕ} {first : ℕ} {out : List 
   pub runs-put-is : n ≤ k → out ≡ splice d first (runLines (valuesOf (readMany (run .read) n (drop from s))))
   runs-put-is h = p .is ∙ rw (walk-all (p .walk) h)
 
-  module _ (h : k < n) {r : RunRead} (f : RunFound s (runHead .read (drop at s)) r) where
-    pub runs-put-none : {j : ℕ} → r ≡ RunStop j → out ≡ splice d first (runLines (valuesOf (readMany (run .read) n (drop from s))))
-    runs-put-none {j} q = absurd (walk-never (p .walk) h {j = j} (run-stops s at f q))
+  module _ (h : k < n) where
+    pub runs-put-here : T (isGot (runHead .read (drop at s)))
+    runs-put-here = head-got s at (walk-here (p .walk) h)
 
-    module _ {i m next : ℕ} (q : r ≡ RunAt i m next) where
-      pub runs-put-from : next ≤ length s
-      runs-put-from = views-place s at f q
+    module _ {r : RunSpan} (f : RunThere s (runHead .read (drop at s)) r) where
+      pub runs-put-from : r .first ≤ length s
+      runs-put-from = f .inside
 
-      pub runs-put-there : T (isGot (readMany (view .read) m (drop next s)))
-      runs-put-there = views-there s at f q (walk-here (p .walk) h)
+      pub runs-put-there : T (isGot (readMany (view .read) (r .views) (drop (r .first) s)))
+      runs-put-there = there-views s at f (walk-here (p .walk) h)
 
-      fits-run : first + length (runLines (p .seen)) + length (lines i 0 (valuesOf (readMany (view .read) m (drop next s)))) ≤ length d
+      fits-run : first + length (runLines (p .seen)) + length (lines (r .id) 0 (valuesOf (readMany (view .read) (r .views) (drop (r .first) s)))) ≤ length d
       fits-run =
-          let e = run-here s at f q (walk-here (p .walk) h) in
+          let e = there-here s at f (walk-here (p .walk) h) in
           let a = walk-ahead (p .walk) h (e .rest) (e .is) in
-          let vs = valuesOf (readMany (view .read) m (drop next s)) in
-          let b : length (runLines (p .seen)) + length (lines i 0 vs) ≤ length (runLines (valuesOf (readMany (run .read) n (drop from s)))) = rw (a .all) (run-within (p .seen) (runOf i vs) (a .tail)) in
+          let vs = valuesOf (readMany (view .read) (r .views) (drop (r .first) s)) in
+          let b : length (runLines (p .seen)) + length (lines (r .id) 0 vs) ≤ length (runLines (valuesOf (readMany (run .read) n (drop from s)))) = rw (a .all) (run-within (p .seen) (runOf (r .id) vs) (a .tail)) in
           omega (arith, p .room)
 
-      pub runs-put-room : to + length (lines i 0 (valuesOf (readMany (view .read) m (drop next s)))) ≤ length out
+      pub runs-put-room : to + length (lines (r .id) 0 (valuesOf (readMany (view .read) (r .views) (drop (r .first) s)))) ≤ length out
       runs-put-room = rw (p .is, length-splice d first (runLines (p .seen)) (omega (arith, fits-run)), p .long) fits-run
 
       pub runs-put-onward :
           {out′ : List ℕ} {w : Reached}
-          → ReachedPast s (readMany (view .read) m (drop next s)) to (lines i 0 (valuesOf (readMany (view .read) m (drop next s)))) w
-          → out′ ≡ splice out to (lines i 0 (valuesOf (readMany (view .read) m (drop next s))))
+          → ReachedPast s (readMany (view .read) (r .views) (drop (r .first) s)) to (lines (r .id) 0 (valuesOf (readMany (view .read) (r .views) (drop (r .first) s)))) w
+          → out′ ≡ splice out to (lines (r .id) 0 (valuesOf (readMany (view .read) (r .views) (drop (r .first) s))))
           → RunsPut s from n d first out′ (k + 1) (w .next) (w .to)
       runs-put-onward {out′} {w} x o =
-          let vs = valuesOf (readMany (view .read) m (drop next s)) in
-          let more = run-lines-more (p .seen) (runOf i vs) in
+          let vs = valuesOf (readMany (view .read) (r .views) (drop (r .first) s)) in
+          let more = run-lines-more (p .seen) (runOf (r .id) vs) in
           record {
-            seen = p .seen ++ (runOf i vs ∷ []);
-            walk = walk-onward (p .walk) h (run-past s at f q (w .next) (x .is)) (x .inside);
+            seen = p .seen ++ (runOf (r .id) vs ∷ []);
+            walk = walk-onward (p .walk) h (there-past s at f (w .next) (x .is)) (x .inside);
             room = p .room;
             long = x .long ∙ rw (p .long, more, length-append) (omega arith);
-            is = o ∙ ap (λ l. splice l to (lines i 0 vs)) (p .is) ∙ splice-splice d first (runLines (p .seen)) (lines i 0 vs) to (p .long) (omega (arith, fits-run)) ∙ ap (splice d first) (sym more);
+            is = o ∙ ap (λ l. splice l to (lines (r .id) 0 vs)) (p .is) ∙ splice-splice d first (runLines (p .seen)) (lines (r .id) 0 vs) to (p .long) (omega (arith, fits-run)) ∙ ap (splice d first) (sym more);
           }
 
-pub ruleset runs-put-exits = (runs-put-begin, runs-put-at, runs-put-length, runs-put-is, runs-put-none, runs-put-from, runs-put-there, runs-put-room, runs-put-onward)
+pub ruleset runs-put-exits = (runs-put-begin, runs-put-at, runs-put-length, runs-put-is, runs-put-here, runs-put-from, runs-put-there, runs-put-room, runs-put-onward)

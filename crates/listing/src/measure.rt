@@ -3,9 +3,6 @@ use crate::Reached;
 use comparable_range::Kind;
 use format::BoundSpan;
 use format::span::RangeSpan;
-use records::CountRead;
-use records::RunRead;
-use records::ViewRead;
 use records::ViewSpan;
 ghost use mathlib.Core.Path.{_≡_};
 ghost use Prim.Native.Nat.{_≤_, _+_};
@@ -68,16 +65,10 @@ fn views_len(s: &[u8], from: usize, n: usize, id: u64) -> Reached
     let mut at = from;
     let mut to = 0;
     while place < n {
-        match records::view_at(s, at) {
-            ViewRead::Stop(_) => {
-                return Reached { next: at, to };
-            }
-            ViewRead::At(v) => {
-                to += line_len(s, v, id, place);
-                at = v.past;
-                place += 1;
-            }
-        }
+        let v = records::view_there(s, at);
+        to += line_len(s, v, id, place);
+        at = v.past;
+        place += 1;
     }
     Reached { next: at, to }
 }
@@ -92,17 +83,11 @@ fn runs_len(s: &[u8], from: usize, n: usize) -> usize
     let mut at = from;
     let mut to = 0;
     while seen < n {
-        match records::run_at(s, at) {
-            RunRead::Stop(_) => {
-                return to;
-            }
-            RunRead::At { id, views, next } => {
-                let r = views_len(s, next, views, id);
-                to += r.to;
-                at = r.next;
-                seen += 1;
-            }
-        }
+        let run = records::run_there(s, at);
+        let r = views_len(s, run.first, run.views, run.id);
+        to += r.to;
+        at = r.next;
+        seen += 1;
     }
     to
 }
@@ -112,8 +97,5 @@ pub fn listing_len(s: &[u8]) -> usize
     requires { ⌜ length (now s) ≤ 65536 ⌝ ∗ ⌜ T (isGot (image .read (now s))) ⌝ }
     ensures { λ r. ⌜ r ≡ length (listing (valuesOf (image .read (now (s .entry))))) ⌝ }
 {
-    match records::count_at(s, 0, 1, 64) {
-        CountRead::Stop(_) => 25,
-        CountRead::At(n, first) => 25 + runs_len(s, first, n),
-    }
+    25 + runs_len(s, 1, records::runs_there(s))
 }

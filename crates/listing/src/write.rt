@@ -2,9 +2,6 @@
 use crate::Reached;
 use comparable_range::Kind;
 use format::BoundSpan;
-use records::CountRead;
-use records::RunRead;
-use records::ViewRead;
 use records::ViewSpan;
 ghost use mathlib.Core.Path.{_≡_};
 ghost use Prim.Native.Nat.{_≤_, _+_};
@@ -144,16 +141,10 @@ fn put_views(s: &[u8], from: usize, n: usize, id: u64, out: &mut [u8], first: us
     let mut at = from;
     let mut to = first;
     while place < n {
-        match records::view_at(s, at) {
-            ViewRead::Stop(_) => {
-                return Reached { next: at, to };
-            }
-            ViewRead::At(v) => {
-                to = put_line(s, v, id, place, out, to);
-                at = v.past;
-                place += 1;
-            }
-        }
+        let v = records::view_there(s, at);
+        to = put_line(s, v, id, place, out, to);
+        at = v.past;
+        place += 1;
     }
     Reached { next: at, to }
 }
@@ -168,17 +159,11 @@ fn put_runs(s: &[u8], from: usize, n: usize, out: &mut [u8], first: usize)
     let mut at = from;
     let mut to = first;
     while seen < n {
-        match records::run_at(s, at) {
-            RunRead::Stop(_) => {
-                return;
-            }
-            RunRead::At { id, views, next } => {
-                let r = put_views(s, next, views, id, out, to);
-                to = r.to;
-                at = r.next;
-                seen += 1;
-            }
-        }
+        let run = records::run_there(s, at);
+        let r = put_views(s, run.first, run.views, run.id, out, to);
+        to = r.to;
+        at = r.next;
+        seen += 1;
     }
 }
 
@@ -221,11 +206,7 @@ pub fn put_listing(s: &[u8], out: &mut [u8])
     requires { ⌜ T (isGot (image .read (now s))) ⌝ ∗ ⌜ length (listing (valuesOf (image .read (now s)))) ≤ length (now out) ⌝ }
     ensures { λ _. ⌜ now (out .exit) ≡ over (listing (valuesOf (image .read (now (s .entry))))) (now (out .entry)) ⌝ }
 {
-    match records::count_at(s, 0, 1, 64) {
-        CountRead::Stop(_) => {}
-        CountRead::At(n, first) => {
-            put_header(out);
-            put_runs(s, first, n, out, 25);
-        }
-    }
+    let n = records::runs_there(s);
+    put_header(out);
+    put_runs(s, 1, n, out, 25);
 }

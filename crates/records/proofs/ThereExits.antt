@@ -50,6 +50,10 @@ counted-runs : (b : Bool) (n : ℕ) (l : List ℕ) (k : ℕ → List ℕ → Got
 counted-runs true n l k t = refl
 counted-runs false n l k t = absurd t
 
+counted-most : (b : Bool) (n : ℕ) (l : List ℕ) (k : ℕ → List ℕ → Got Image) → leb n 64 ≡ b → T (isGot (andThen (taken (check 3 b (answer n)) l) k)) → n ≤ 64
+counted-most true n l k e t = leb-true n 64 e
+counted-most false n l k e t = absurd t
+
 module _ (s : List ℕ) (t : T (isGot (image .read s))) where
   runs-got : T (isGot (andThen (upTo 1 64 .read s) (readMany (run .read))))
   runs-got = rw (image-is s) at t
@@ -64,6 +68,7 @@ module _ (s : List ℕ) (t : T (isGot (image .read s))) where
       record {
         meaning = image-is s ∙ rw f (counted-runs (leb n 64) n (drop 1 s) (readMany (run .read)) (rw f at runs-got));
         inside = image-room;
+        most = counted-most (leb n 64) n (drop 1 s) (readMany (run .read)) refl (rw f at runs-got);
       }
 
 pub ruleset runs-there-exits = (image-room, runs-are)

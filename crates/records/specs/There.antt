@@ -21,6 +21,7 @@ use Rattle.records.specs.declared.there.RunSpan.{RunSpan}
 pub record RunsThere (s : List ℕ) (g : Got Image) (n : ℕ) : Type 0 where
   pub meaning : g ≡ readMany (run .read) n (drop 1 s)
   pub inside : 1 ≤ length s
+  pub most : n ≤ 64
 
 pub record RunThere (s : List ℕ) (g : Got (ℕ × ℕ)) (r : RunSpan) : Type 0 where
   pub meaning : g ≡ got (r .id, r .views) (drop (r .first) s)

@@ -5,14 +5,8 @@ use borrow.Author.Needs.{needs}
 use Rattle.listing.proofs.measure.listing_len.Statement.{statement}
 use Rattle.listing.proofs.measure.listing_len.Tie as tie
 
-count-at-requires : tie.Need-count-at-requires
-count-at-requires c κs = search (needs, listing-len-exits)
-
-enum-told : tie.Need-enum-told
-enum-told c = search (needs, listing-len-exits)
-
-enum-known-n : tie.Need-enum-known-n
-enum-known-n c = search (needs, listing-len-exits)
+runs-there-requires : tie.Need-runs-there-requires
+runs-there-requires c κs = search (needs, listing-len-exits)
 
 runs-len-requires : tie.Need-runs-len-requires
 runs-len-requires c κs = search (needs, listing-len-exits)
@@ -23,17 +17,11 @@ add-result c = search (needs, listing-len-exits)
 returns : tie.Need-returns
 returns c = search (needs, listing-len-exits)
 
-returns-2 : tie.Need-returns-2
-returns-2 c = search (needs, listing-len-exits)
-
 pub listing-len-spec : {M : Type 1} → statement M
 listing-len-spec =
     tie.close
     (tie.spec
-    count-at-requires
-    enum-told
-    enum-known-n
+    runs-there-requires
     runs-len-requires
     add-result
-    returns
-    returns-2)
+    returns)

@@ -15,17 +15,8 @@ abbrev μ-loop : tie.MeasureT-loop
 loop-holds : tie.Need-loop-holds Inv-loop μ-loop
 loop-holds c = search (needs, runs-len-exits)
 
-run-at-requires : tie.Need-run-at-requires Inv-loop μ-loop
-run-at-requires c κs = search (needs, runs-len-exits)
-
-enum-told : tie.Need-enum-told Inv-loop μ-loop
-enum-told c = search (needs, runs-len-exits)
-
-returns : tie.Need-returns Inv-loop μ-loop
-returns c = search (needs, runs-len-exits)
-
-enum-known-id : tie.Need-enum-known-id Inv-loop μ-loop
-enum-known-id c = search (needs, runs-len-exits)
+run-there-requires : tie.Need-run-there-requires Inv-loop μ-loop
+run-there-requires c κs = search (needs, runs-len-exits)
 
 views-len-requires : tie.Need-views-len-requires Inv-loop μ-loop
 views-len-requires c κs = search (needs, runs-len-exits)
@@ -42,8 +33,8 @@ loop-less c = search (needs, runs-len-exits)
 loop-again : tie.Need-loop-again Inv-loop μ-loop
 loop-again c = search (needs, runs-len-exits)
 
-returns-2 : tie.Need-returns-2 Inv-loop μ-loop
-returns-2 c = search (needs, runs-len-exits)
+returns : tie.Need-returns Inv-loop μ-loop
+returns c = search (needs, runs-len-exits)
 
 pub runs-len-spec : {M : Type 1} → statement M
 runs-len-spec =
@@ -52,13 +43,10 @@ runs-len-spec =
     Inv-loop
     μ-loop
     loop-holds
-    run-at-requires
-    enum-told
-    returns
-    enum-known-id
+    run-there-requires
     views-len-requires
     add-to
     add-seen
     loop-less
     loop-again
-    returns-2)
+    returns)

@@ -15,17 +15,8 @@ abbrev μ-loop : tie.MeasureT-loop
 loop-holds : tie.Need-loop-holds Inv-loop μ-loop
 loop-holds c = search (needs, views-len-exits)
 
-view-at-requires : tie.Need-view-at-requires Inv-loop μ-loop
-view-at-requires c κs = search (needs, views-len-exits)
-
-enum-told : tie.Need-enum-told Inv-loop μ-loop
-enum-told c = search (needs, views-len-exits)
-
-returns : tie.Need-returns Inv-loop μ-loop
-returns c = search (needs, views-len-exits)
-
-enum-known-v : tie.Need-enum-known-v Inv-loop μ-loop
-enum-known-v c = search (needs, views-len-exits)
+view-there-requires : tie.Need-view-there-requires Inv-loop μ-loop
+view-there-requires c κs = search (needs, views-len-exits)
 
 line-len-requires : tie.Need-line-len-requires Inv-loop μ-loop
 line-len-requires c κs = search (needs, views-len-exits)
@@ -42,8 +33,8 @@ loop-less c = search (needs, views-len-exits)
 loop-again : tie.Need-loop-again Inv-loop μ-loop
 loop-again c = search (needs, views-len-exits)
 
-returns-2 : tie.Need-returns-2 Inv-loop μ-loop
-returns-2 c = search (needs, views-len-exits)
+returns : tie.Need-returns Inv-loop μ-loop
+returns c = search (needs, views-len-exits)
 
 pub views-len-spec : {M : Type 1} → statement M
 views-len-spec =
@@ -52,13 +43,10 @@ views-len-spec =
     Inv-loop
     μ-loop
     loop-holds
-    view-at-requires
-    enum-told
-    returns
-    enum-known-v
+    view-there-requires
     line-len-requires
     add-to
     add-place
     loop-less
     loop-again
-    returns-2)
+    returns)

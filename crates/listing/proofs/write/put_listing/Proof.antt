@@ -5,14 +5,8 @@ use borrow.Author.Needs.{needs}
 use Rattle.listing.proofs.write.put_listing.Statement.{statement}
 use Rattle.listing.proofs.write.put_listing.Tie as tie
 
-count-at-requires : tie.Need-count-at-requires
-count-at-requires c κs = search (needs, listing-put-exits)
-
-enum-told : tie.Need-enum-told
-enum-told c = search (needs, listing-put-exits)
-
-enum-known-n : tie.Need-enum-known-n
-enum-known-n c = search (needs, listing-put-exits)
+runs-there-requires : tie.Need-runs-there-requires
+runs-there-requires c κs = search (needs, listing-put-exits)
 
 put-header-requires : tie.Need-put-header-requires
 put-header-requires c κs = search (needs, listing-put-exits)
@@ -26,18 +20,12 @@ returns c = search (needs, listing-put-exits)
 same-length : tie.Need-same-length
 same-length c = search (needs, listing-put-exits)
 
-returns-2 : tie.Need-returns-2
-returns-2 c = search (needs, listing-put-exits)
-
 pub put-listing-spec : {M : Type 1} → statement M
 put-listing-spec =
     tie.close
     (tie.spec
-    count-at-requires
-    enum-told
-    enum-known-n
+    runs-there-requires
     put-header-requires
     put-runs-requires
-    returns
     same-length
-    returns-2)
+    returns)

@@ -15,20 +15,8 @@ abbrev μ-loop : tie.MeasureT-loop
 loop-holds : tie.Need-loop-holds Inv-loop μ-loop
 loop-holds c = search (needs, runs-put-exits)
 
-run-at-requires : tie.Need-run-at-requires Inv-loop μ-loop
-run-at-requires c κs = search (needs, runs-put-exits)
-
-enum-told : tie.Need-enum-told Inv-loop μ-loop
-enum-told c = search (needs, runs-put-exits)
-
-same-length : tie.Need-same-length Inv-loop μ-loop
-same-length c = search (needs, runs-put-exits)
-
-returns : tie.Need-returns Inv-loop μ-loop
-returns c = search (needs, runs-put-exits)
-
-enum-known-id : tie.Need-enum-known-id Inv-loop μ-loop
-enum-known-id c = search (needs, runs-put-exits)
+run-there-requires : tie.Need-run-there-requires Inv-loop μ-loop
+run-there-requires c κs = search (needs, runs-put-exits)
 
 put-views-requires : tie.Need-put-views-requires Inv-loop μ-loop
 put-views-requires c κs = (search (needs, runs-put-exits), (search (needs, runs-put-exits), search (needs, runs-put-exits)))
@@ -42,11 +30,11 @@ loop-less c = search (needs, runs-put-exits)
 loop-again : tie.Need-loop-again Inv-loop μ-loop
 loop-again c = search (needs, runs-put-exits)
 
-same-length-2 : tie.Need-same-length-2 Inv-loop μ-loop
-same-length-2 c = search (needs, runs-put-exits)
+same-length : tie.Need-same-length Inv-loop μ-loop
+same-length c = search (needs, runs-put-exits)
 
-returns-2 : tie.Need-returns-2 Inv-loop μ-loop
-returns-2 c = search (needs, runs-put-exits)
+returns : tie.Need-returns Inv-loop μ-loop
+returns c = search (needs, runs-put-exits)
 
 pub put-runs-spec : {M : Type 1} → statement M
 put-runs-spec =
@@ -55,14 +43,10 @@ put-runs-spec =
     Inv-loop
     μ-loop
     loop-holds
-    run-at-requires
-    enum-told
-    same-length
-    returns
-    enum-known-id
+    run-there-requires
     put-views-requires
     add-seen
     loop-less
     loop-again
-    same-length-2
-    returns-2)
+    same-length
+    returns)

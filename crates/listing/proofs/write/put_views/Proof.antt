@@ -15,20 +15,8 @@ abbrev μ-loop : tie.MeasureT-loop
 loop-holds : tie.Need-loop-holds Inv-loop μ-loop
 loop-holds c = search (needs, views-put-exits)
 
-view-at-requires : tie.Need-view-at-requires Inv-loop μ-loop
-view-at-requires c κs = search (needs, views-put-exits)
-
-enum-told : tie.Need-enum-told Inv-loop μ-loop
-enum-told c = search (needs, views-put-exits)
-
-same-length : tie.Need-same-length Inv-loop μ-loop
-same-length c = search (needs, views-put-exits)
-
-returns : tie.Need-returns Inv-loop μ-loop
-returns c = search (needs, views-put-exits)
-
-enum-known-v : tie.Need-enum-known-v Inv-loop μ-loop
-enum-known-v c = search (needs, views-put-exits)
+view-there-requires : tie.Need-view-there-requires Inv-loop μ-loop
+view-there-requires c κs = search (needs, views-put-exits)
 
 put-line-requires : tie.Need-put-line-requires Inv-loop μ-loop
 put-line-requires c κs = search (needs, views-put-exits)
@@ -42,11 +30,11 @@ loop-less c = search (needs, views-put-exits)
 loop-again : tie.Need-loop-again Inv-loop μ-loop
 loop-again c = search (needs, views-put-exits)
 
-same-length-2 : tie.Need-same-length-2 Inv-loop μ-loop
-same-length-2 c = search (needs, views-put-exits)
+same-length : tie.Need-same-length Inv-loop μ-loop
+same-length c = search (needs, views-put-exits)
 
-returns-2 : tie.Need-returns-2 Inv-loop μ-loop
-returns-2 c = search (needs, views-put-exits)
+returns : tie.Need-returns Inv-loop μ-loop
+returns c = search (needs, views-put-exits)
 
 pub put-views-spec : {M : Type 1} → statement M
 put-views-spec =
@@ -55,14 +43,10 @@ put-views-spec =
     Inv-loop
     μ-loop
     loop-holds
-    view-at-requires
-    enum-told
-    same-length
-    returns
-    enum-known-v
+    view-there-requires
     put-line-requires
     add-place
     loop-less
     loop-again
-    same-length-2
-    returns-2)
+    same-length
+    returns)
