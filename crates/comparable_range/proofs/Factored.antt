@@ -164,25 +164,20 @@ module _ (ks : Kind) (s : Key) (ke : Kind) (e : Key) (js : Kind) (t : Key) (je :
   abbrev q : Range
   q = rangeOf js t je f
 
-  pub supplied-tested :
-      (u v : Side) {ku kv : Kind} {x y : Key} {w : Bool}
-      → ku ≡ of u ks js
-      → x ≡ of u s t
-      → kv ≡ of v ke je
-      → y ≡ of v e f
-      → w ≡ boundsPass (boundOf ku x) (boundOf kv y)
-      → w ≡ nonEmpty (supplied r q u v)
-  supplied-tested u v a b c d h = h ∙ rw (a, b, c, d, of-bound u ks js s t, of-bound v ke je e f)
-
+  -- `intersect`: the kinds and the keys are those of the two sides
   module _ {u v : Side} (hu : u ≡ startSide (r .start) (q .start)) (hv : v ≡ endSide (r .end) (q .end))
-      {w : Bool} (h : w ≡ nonEmpty (supplied r q u v)) where
+      {ku kv : Kind} {x y : Key} (a : ku ≡ of u ks js) (b : x ≡ of u s t) (c : kv ≡ of v ke je) (d : y ≡ of v e f)
+      {w : Bool} (h : w ≡ boundsPass (boundOf ku x) (boundOf kv y)) where
+    supplied-tested : w ≡ nonEmpty (supplied r q u v)
+    supplied-tested = h ∙ rw (a, b, c, d, of-bound u ks js s t, of-bound v ke je e f)
+
     pub met : w ≡ true → From u v ≡ intersectSides r q
     unfolding intersectSides
-    met k = rw (← hu, ← hv, ← h, k)
+    met k = rw (← hu, ← hv, ← supplied-tested, k)
 
     pub apart : w ≡ false → Nothing ≡ intersectSides r q
     unfolding intersectSides
-    apart k = rw (← hu, ← hv, ← h, k)
+    apart k = rw (← hu, ← hv, ← supplied-tested, k)
 
   module _ {i : Sides} {m : Bool} (hi : i ≡ intersectSides r q) (hm : m ≡ meets i) where
     pub united : {g : Side} → m ≡ true → g ≡ greaterEndSide (r .end) (q .end) → From First g ≡ uniteSides r q
@@ -207,4 +202,4 @@ module _ (ks : Kind) (s : Key) (ke : Kind) (e : Key) (js : Kind) (t : Key) (je :
     unfolding unionSides
     reversed k g d = rw (← ho, ← hl, k, d, g)
 
-pub ruleset pair-exits = (supplied-tested, met, apart, united, joined, not-united, in-order, reversed)
+pub ruleset pair-exits = (met, apart, united, joined, not-united, in-order, reversed)

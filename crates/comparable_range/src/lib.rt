@@ -2,7 +2,7 @@
 // not looked at.
 use key::Order;
 ghost use mathlib.Core.Path.{_≡_};
-ghost use Rattle.comparable_range.specs.Range.{boundOf, rangeOf, of, supplied, cmpBound, nonEmpty, holds, startHolds, endHolds, areAdjacent, cmpRange, startSide, endSide, intersectSides, greaterEndSide, meets, unionSides, uniteSides, exchanged, other};
+ghost use Rattle.comparable_range.specs.Range.{boundOf, rangeOf, of, cmpBound, nonEmpty, holds, startHolds, endHolds, areAdjacent, cmpRange, startSide, endSide, intersectSides, greaterEndSide, meets, unionSides, uniteSides, exchanged, other};
 ghost use Rattle.base.specs.Pick.{pick};
 ghost use Rattle.comparable_range.specs.Factors.{isKeyed, tie, keyOrder, passes};
 
@@ -186,29 +186,6 @@ pub fn end_side(ka: Kind, a: &[u8], kb: Kind, b: &[u8]) -> Side
     )
 }
 
-// Whether the range passes whose start and end the two sides supply.
-fn supplied_passes<'a>(
-    start: Side,
-    end: Side,
-    ks: Kind,
-    s: &'a [u8],
-    ke: Kind,
-    e: &'a [u8],
-    js: Kind,
-    t: &'a [u8],
-    je: Kind,
-    f: &'a [u8],
-) -> bool
-    ensures { λ r. ⌜ r ≡ nonEmpty (supplied (rangeOf ks (now (s .entry)) ke (now (e .entry))) (rangeOf js (now (t .entry)) je (now (f .entry))) start end) ⌝ }
-{
-    non_empty(
-        kind_of(start, ks, js),
-        key_of(start, s, t),
-        kind_of(end, ke, je),
-        key_of(end, e, f),
-    )
-}
-
 // The intersection of two ranges: each is its start's kind and key, then its end's.
 pub fn intersect<'a>(
     ks: Kind,
@@ -224,7 +201,12 @@ pub fn intersect<'a>(
 {
     let start = start_side(ks, s, js, t);
     let end = end_side(ke, e, je, f);
-    if supplied_passes(start, end, ks, s, ke, e, js, t, je, f) {
+    if non_empty(
+        kind_of(start, ks, js),
+        key_of(start, s, t),
+        kind_of(end, ke, je),
+        key_of(end, e, f),
+    ) {
         return Sides::From(start, end);
     }
     Sides::Nothing
