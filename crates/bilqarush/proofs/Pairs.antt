@@ -5,7 +5,6 @@ use mathlib.Core.Path.{_≡_, refl, sym, _∙_}
 use mathlib.Core.Bool.{Bool, true, false}
 use mathlib.Core.Option.{Option}
 use mathlib.Core.List.{List}
-use lib.ListN.{take}
 use denote.Ref.{RefT, now}
 use Rattle.base.specs.Outcome.{Outcome, stop, answer}
 use Rattle.key.specs.Order.{Key}
@@ -15,16 +14,14 @@ use Rattle.comparable_range.specs.declared.Sides.{Sides}
 use Rattle.comparable_range.specs.declared.Sides.the-variants.{Nothing as NoSides, From}
 use Rattle.format.specs.Range.{rangeIn, BoundInside, RangeWhole}
 use Rattle.format.specs.Joint.{Joint}
-use Rattle.format.specs.Span.{SuppliedInside, suppliedBound, boundKey}
 use Rattle.format.specs.declared.range.BoundSpan.{BoundSpan}
 use Rattle.format.specs.declared.range.RangeRead.{RangeRead}
 use Rattle.format.specs.declared.range.RangeRead.the-variants.{At as RangeAt, Stop as RangeStop}
 use Rattle.format.specs.declared.span.RangeSpan.{RangeSpan}
-use Rattle.format.specs.declared.span.Supplied.{Supplied}
 use Rattle.format.proofs.Spans.{side-inside, side-bound}
-use Rattle.bilqarush.specs.Calls.{Pair, rangesGiven, joint, intersectOutcome, startKeyOf, endKeyOf, intersectStartKeyOutcome, intersectEndKeyOutcome, unionOutcome}
-use Rattle.format.specs.Span.{jointOf, JoinedInside, JointFound}
-use Rattle.bilqarush.specs.Answers.{BothFound, joinedBy, stopNumber, stopOf, keyOf, PartFound}
+use Rattle.bilqarush.specs.Calls.{Pair, rangesGiven, joint, intersectOutcome, intersectStartKeyOutcome, intersectEndKeyOutcome, unionOutcome}
+use Rattle.format.specs.Span.{jointOf, JoinedInside, JointFound, startKeyOf, endKeyOf, keyOf}
+use Rattle.bilqarush.specs.Answers.{BothFound, joinedBy, stopNumber, stopOf, PartFound}
 use Rattle.bilqarush.specs.declared.Both.{Both}
 use Rattle.bilqarush.specs.declared.Both.the-variants.{Ranges, Stop as BothStop}
 use Rattle.format.specs.declared.span.Joined.{Joined}
@@ -133,36 +130,6 @@ module _ {a b : List ℕ} {r : Both} (w : BothFound a b r) {n : ℕ} (q : r ≡ 
   no-union = record { meaning = rw given-stops; inside = tt }
 
 pub ruleset join-exits = (in-1, in-2, in-3, in-4, intersection, union-made, no-intersection, no-union)
-
--- ---- the keys of an intersection
-module _ (a b : List ℕ) {r : Joined} where
-  module _ {x y : Supplied} (q : r ≡ Found x y) (w : JoinedInside a b r) where
-    pub start-place : SuppliedInside a b x
-    start-place = (rw q at w) .0
-
-    pub end-place : SuppliedInside a b y
-    end-place = (rw q at w) .1
-
-  pub stopped-start : {n : ℕ} → r ≡ Stop n → take 0 a ≡ keyOf (startKeyOf (jointOf a b r))
-  stopped-start q = rw q
-
-  pub stopped-end : {n : ℕ} → r ≡ Stop n → take 0 a ≡ keyOf (endKeyOf (jointOf a b r))
-  stopped-end q = rw q
-
-  pub no-start : r ≡ Nothing → take 0 a ≡ keyOf (startKeyOf (jointOf a b r))
-  no-start q = rw q
-
-  pub no-end : r ≡ Nothing → take 0 a ≡ keyOf (endKeyOf (jointOf a b r))
-  no-end q = rw q
-
-  module _ {x y : Supplied} (q : r ≡ Found x y) {k : Key} where
-    pub start-key : k ≡ boundKey (suppliedBound a b x) → k ≡ keyOf (startKeyOf (jointOf a b r))
-    start-key h = h ∙ rw q
-
-    pub end-key : k ≡ boundKey (suppliedBound a b y) → k ≡ keyOf (endKeyOf (jointOf a b r))
-    end-key h = h ∙ rw q
-
-pub ruleset key-exits = (start-place, end-place, stopped-start, stopped-end, no-start, no-end, start-key, end-key)
 
 -- ---- a number and a part that were made of the range that `intersect` answered
 start-number : (a b : List ℕ) (j : Joined) → stopNumber j ≡ stopOf (startKeyOf (jointOf a b j))

@@ -40,7 +40,7 @@ use Rattle.format.proofs.span.Joined as J
 use Rattle.format.proofs.span.Joined.Laws as J′
 use Rattle.bilqarush.proofs.intersect as both
 use Rattle.bilqarush.proofs.stop_number as number
-use Rattle.bilqarush.proofs.start_part as part
+use Rattle.format.proofs.span.start_part as part
 
 -- a slice's machine value
 abbrev pub valOf : RefT (List ℕ) → Val

@@ -2,7 +2,7 @@
 use Prim.Native.Nat.{ℕ}
 use mathlib.Core.Path.{_≡_}
 use mathlib.Core.Option.{Option, none, some}
-use mathlib.Core.List.{List, []}
+use mathlib.Core.List.{List}
 use lib.IntN.{ℤ}
 use lib.ListN.{length}
 use denote.Ref.{now}
@@ -13,6 +13,7 @@ use Rattle.comparable_range.specs.declared.Side.{Side}
 use Rattle.comparable_range.specs.declared.Sides.{Sides}
 use Rattle.comparable_range.specs.declared.Sides.the-variants.{Nothing as NoSides, From}
 use Rattle.format.specs.Range.{rangeIn, BoundInside}
+use Rattle.format.specs.Span.{keyOf}
 use Rattle.format.specs.declared.range.BoundSpan.{BoundSpan}
 use Rattle.format.specs.declared.span.RangeSpan.{RangeSpan}
 use Rattle.format.specs.declared.span.Supplied.{Supplied}
@@ -66,14 +67,10 @@ stopNumber (Range s e) = 0
 stopNumber Nothing = 0
 stopNumber (Stop n) = n
 
--- the same of an outcome, and its key, no byte after a stop
+-- the same of an outcome
 abbrev pub stopOf : {A : Type 0} → Outcome A → ℕ
 stopOf (stop n) = n
 stopOf (answer a) = 0
-
-abbrev pub keyOf : Outcome Key → Key
-keyOf (stop n) = []
-keyOf (answer k) = k
 
 pub record PartFound (g : Outcome Key) (r : KeyPart) : Type 0 where
   pub number : r .stop ≡ stopOf g

@@ -2,7 +2,7 @@
 use Prim.Native.Nat.{ℕ}
 use mathlib.Core.Bool.{Bool, _&&_}
 use mathlib.Core.Option.{Option, none, some}
-use mathlib.Core.List.{List, []}
+use mathlib.Core.List.{List}
 use lib.IntN.{ℤ}
 use Rattle.base.specs.Outcome.{Outcome, stop, answer, andThen, check, writtenTo}
 use Rattle.key.specs.Order.{Key, cmpKey, sign}
@@ -13,7 +13,7 @@ use Rattle.format.specs.Range.{readRange, writeRange}
 use Rattle.format.specs.Whole.{whole, keyGiven}
 use Rattle.format.specs.Given.{boundGiven}
 use Rattle.format.specs.Joint.{Joint}
-use Rattle.format.specs.Span.{boundKey}
+use Rattle.format.specs.Span.{startKeyOf, endKeyOf}
 use Rattle.bytes_range.specs.Prefix.{fromPrefix, asPoint}
 use Rattle.bytes_range.specs.Writing.{joinedTo}
 
@@ -60,21 +60,6 @@ joint p (From s e) =
 
 unfoldable pub intersectOutcome : List ℕ → List ℕ → Outcome (Option Joint)
 intersectOutcome a b = andThen (rangesGiven a b) (λ p. answer (joint p (intersectSides (p .first) (p .second))))
-
--- the key of a bound of an intersection: no byte where there is no range, and for an unbounded bound
-abbrev pub startKey : Option Joint → Key
-startKey none = []
-startKey (some j) = boundKey (j .start .bound)
-
-abbrev pub endKey : Option Joint → Key
-endKey none = []
-endKey (some j) = boundKey (j .end .bound)
-
-abbrev pub startKeyOf : Outcome (Option Joint) → Outcome Key
-startKeyOf g = andThen g (λ j. answer (startKey j))
-
-abbrev pub endKeyOf : Outcome (Option Joint) → Outcome Key
-endKeyOf g = andThen g (λ j. answer (endKey j))
 
 unfoldable pub intersectStartKeyOutcome : List ℕ → List ℕ → Outcome Key
 intersectStartKeyOutcome a b = startKeyOf (intersectOutcome a b)

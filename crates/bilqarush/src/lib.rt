@@ -45,9 +45,9 @@ pub use sizes::visible_fraction;
 ghost use mathlib.Core.Path.{_≡_};
 ghost use lib.ListN.{length};
 ghost use Rattle.base.specs.Outcome.{reported, lent, testOf};
-ghost use Rattle.format.specs.Span.{jointOf, JoinedInside, JointFound};
-ghost use Rattle.bilqarush.specs.Calls.{compareOutcome, cmpBoundOutcome, nonEmptyOutcome, containsOutcome, asPointOutcome, intersectOutcome, startKeyOf, endKeyOf, intersectStartKeyOutcome, intersectEndKeyOutcome, unionOutcome, fromPrefixOutcome, fromPrefixAndSubrangeOutcome};
-ghost use Rattle.bilqarush.specs.Answers.{orderOf, BothFound, joinedBy, pointAt, stopNumber, keyOf, PartFound};
+ghost use Rattle.format.specs.Span.{JointFound};
+ghost use Rattle.bilqarush.specs.Calls.{compareOutcome, cmpBoundOutcome, nonEmptyOutcome, containsOutcome, asPointOutcome, intersectOutcome, intersectStartKeyOutcome, intersectEndKeyOutcome, unionOutcome, fromPrefixOutcome, fromPrefixAndSubrangeOutcome};
+ghost use Rattle.bilqarush.specs.Answers.{orderOf, BothFound, joinedBy, pointAt, stopNumber, PartFound};
 
 // A comparison's answer: -1, 0 or 1, or the number of a stop.
 pub enum Compared {
@@ -232,30 +232,6 @@ fn stop_number(joined: Joined) -> u8
     }
 }
 
-// The key of an intersection's start, as a part of the slice that supplied it; an empty part where there is none.
-fn start_part<'a>(a: &'a [u8], b: &'a [u8], joined: Joined) -> &'a [u8]
-    requires { ⌜ JoinedInside (now a) (now b) joined ⌝ }
-    ensures { λ r. ⌜ now r ≡ keyOf (startKeyOf (jointOf (now (a .entry)) (now (b .entry)) joined)) ⌝ }
-{
-    match joined {
-        Joined::Stop(_) => &a[..0],
-        Joined::Nothing => &a[..0],
-        Joined::Range(start, _) => span::supplied_key(a, b, start),
-    }
-}
-
-// The key of its end.
-fn end_part<'a>(a: &'a [u8], b: &'a [u8], joined: Joined) -> &'a [u8]
-    requires { ⌜ JoinedInside (now a) (now b) joined ⌝ }
-    ensures { λ r. ⌜ now r ≡ keyOf (endKeyOf (jointOf (now (a .entry)) (now (b .entry)) joined)) ⌝ }
-{
-    match joined {
-        Joined::Stop(_) => &a[..0],
-        Joined::Nothing => &a[..0],
-        Joined::Range(_, end) => span::supplied_key(a, b, end),
-    }
-}
-
 // The number of the stop, or 0, and a key as a part of the slice that supplied it. The part is empty after a stop, where
 // there is no intersection, and for an unbounded bound.
 pub struct KeyPart<'a> {
@@ -269,7 +245,7 @@ pub fn intersect_start_key<'a>(a: &'a [u8], b: &'a [u8]) -> KeyPart<'a>
 {
     let joined = intersect(a, b);
     let stop = stop_number(joined);
-    let key = start_part(a, b, joined);
+    let key = span::start_part(a, b, joined);
     KeyPart { stop, key }
 }
 
@@ -279,7 +255,7 @@ pub fn intersect_end_key<'a>(a: &'a [u8], b: &'a [u8]) -> KeyPart<'a>
 {
     let joined = intersect(a, b);
     let stop = stop_number(joined);
-    let key = end_part(a, b, joined);
+    let key = span::end_part(a, b, joined);
     KeyPart { stop, key }
 }
 

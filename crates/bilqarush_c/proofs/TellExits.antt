@@ -8,8 +8,8 @@ use lib.ListN.{length}
 use Rattle.base.specs.Outcome.{Outcome, stop, answer, lent, reported}
 use Rattle.base.specs.declared.Written.{Written}
 use Rattle.format.specs.Joint.{Joint}
-use Rattle.bilqarush.specs.Calls.{asPointOutcome, intersectOutcome, startKeyOf, endKeyOf, intersectStartKeyOutcome, intersectEndKeyOutcome}
-use Rattle.format.specs.Span.{jointOf, JoinedInside, JointFound}
+use Rattle.bilqarush.specs.Calls.{asPointOutcome, intersectOutcome, intersectStartKeyOutcome, intersectEndKeyOutcome}
+use Rattle.format.specs.Span.{jointOf, JoinedInside, JointFound, startKeyOf, endKeyOf}
 use Rattle.bilqarush.specs.Answers.{stopOf, pointAt}
 use Rattle.bilqarush.specs.ImageCalls.{checkedAnswer, compactedEffectiveRangeOutcome, ViewRangeFound}
 use Rattle.bilqarush.specs.declared.Point.{Point}

@@ -17,10 +17,12 @@ use Rattle.comparable_range.specs.declared.Sides.{Sides}
 use Rattle.comparable_range.specs.declared.Sides.the-variants.{Nothing, From}
 use Rattle.comparable_range.proofs.Unions.{meets-is}
 use Rattle.format.specs.Range.{rangeIn, boundIn, BoundInside}
-use Rattle.format.specs.Span.{SuppliedInside, suppliedBound, boundKey}
+use Rattle.format.specs.Span.{SuppliedInside, suppliedBound, boundKey, JoinedInside, jointOf, startKeyOf, endKeyOf, keyOf}
 use Rattle.format.specs.declared.range.BoundSpan.{BoundSpan}
 use Rattle.format.specs.declared.span.RangeSpan.{RangeSpan}
 use Rattle.format.specs.declared.span.Supplied.{Supplied}
+use Rattle.format.specs.declared.span.Joined.{Joined}
+use Rattle.format.specs.declared.span.Joined.the-variants.{Range as Found, Nothing as NoRange, Stop}
 
 abbrev part : List ℕ → BoundSpan → Key
 part s b = take (b .len) (drop (b .at) s)
@@ -110,3 +112,33 @@ module _ (a b : List ℕ) (x : Supplied) where
     no-key w = sym (no-key-back (x .bound .kind) (part (of (x .side) a b) (x .bound)) (sym e ∙ w))
 
 pub ruleset supply-exits = (first-inside, second-inside, first-key, second-key, no-key)
+
+-- ---- start_part, end_part
+module _ (a b : List ℕ) {r : Joined} where
+  module _ {x y : Supplied} (q : r ≡ Found x y) (w : JoinedInside a b r) where
+    pub start-place : SuppliedInside a b x
+    start-place = (rw q at w) .0
+
+    pub end-place : SuppliedInside a b y
+    end-place = (rw q at w) .1
+
+  pub stopped-start : {n : ℕ} → r ≡ Stop n → take 0 a ≡ keyOf (startKeyOf (jointOf a b r))
+  stopped-start q = rw q
+
+  pub stopped-end : {n : ℕ} → r ≡ Stop n → take 0 a ≡ keyOf (endKeyOf (jointOf a b r))
+  stopped-end q = rw q
+
+  pub no-start : r ≡ NoRange → take 0 a ≡ keyOf (startKeyOf (jointOf a b r))
+  no-start q = rw q
+
+  pub no-end : r ≡ NoRange → take 0 a ≡ keyOf (endKeyOf (jointOf a b r))
+  no-end q = rw q
+
+  module _ {x y : Supplied} (q : r ≡ Found x y) {k : Key} where
+    pub start-key : k ≡ boundKey (suppliedBound a b x) → k ≡ keyOf (startKeyOf (jointOf a b r))
+    start-key h = h ∙ rw q
+
+    pub end-key : k ≡ boundKey (suppliedBound a b y) → k ≡ keyOf (endKeyOf (jointOf a b r))
+    end-key h = h ∙ rw q
+
+pub ruleset part-exits = (start-place, end-place, stopped-start, stopped-end, no-start, no-end, start-key, end-key)

@@ -3,7 +3,7 @@ use Prim.Native.Nat.{ℕ}
 use mathlib.Core.Path.{_≡_}
 use mathlib.Core.Option.{Option, none, some}
 use mathlib.Core.List.{List, []}
-use Rattle.base.specs.Outcome.{Outcome, stop, answer}
+use Rattle.base.specs.Outcome.{Outcome, stop, answer, andThen}
 use Rattle.key.specs.Order.{Key}
 use Rattle.comparable_range.specs.Range.{Bound, unbounded, included, excluded, of}
 use Rattle.format.specs.Range.{BoundInside, boundIn}
@@ -67,3 +67,24 @@ JoinedInside a b (Stop n) = Unit
 pub record JointFound (a b : List ℕ) (g : Outcome (Option Joint)) (r : Joined) : Type 0 where
   pub meaning : jointOf a b r ≡ g
   pub inside : JoinedInside a b r
+
+-- ---- the key of a bound of what a call answers
+-- no byte where there is no range, and for an unbounded bound
+abbrev pub startKey : Option Joint → Key
+startKey none = []
+startKey (some j) = boundKey (j .start .bound)
+
+abbrev pub endKey : Option Joint → Key
+endKey none = []
+endKey (some j) = boundKey (j .end .bound)
+
+abbrev pub startKeyOf : Outcome (Option Joint) → Outcome Key
+startKeyOf g = andThen g (λ j. answer (startKey j))
+
+abbrev pub endKeyOf : Outcome (Option Joint) → Outcome Key
+endKeyOf g = andThen g (λ j. answer (endKey j))
+
+-- the key of an outcome, no byte after a stop
+abbrev pub keyOf : Outcome Key → Key
+keyOf (stop n) = []
+keyOf (answer k) = k

@@ -10,7 +10,7 @@ ghost use Rattle.comparable_range.specs.Range.{of, cmpBound, nonEmpty, startSid
 ghost use Rattle.comparable_range.specs.Range as range;
 ghost use Rattle.format.specs.Range.{BoundInside, boundIn, rangeIn};
 ghost use Rattle.format.specs.Joint as joint;
-ghost use Rattle.format.specs.Span.{SuppliedInside, suppliedBound, boundKey, JointInside, jointIn, MetFound};
+ghost use Rattle.format.specs.Span.{SuppliedInside, suppliedBound, boundKey, JointInside, jointIn, MetFound, JoinedInside, jointOf, startKeyOf, endKeyOf, keyOf};
 
 // A range whose bounds stand in one slice.
 pub struct RangeSpan {
@@ -197,6 +197,30 @@ pub fn supplied_key<'a>(a: &'a [u8], b: &'a [u8], x: Supplied) -> &'a [u8]
         }
     }
     &a[..0]
+}
+
+// The key of an intersection's start, as a part of the slice that supplied it; an empty part where there is none.
+pub fn start_part<'a>(a: &'a [u8], b: &'a [u8], joined: Joined) -> &'a [u8]
+    requires { ⌜ JoinedInside (now a) (now b) joined ⌝ }
+    ensures { λ r. ⌜ now r ≡ keyOf (startKeyOf (jointOf (now (a .entry)) (now (b .entry)) joined)) ⌝ }
+{
+    match joined {
+        Joined::Stop(_) => &a[..0],
+        Joined::Nothing => &a[..0],
+        Joined::Range(start, _) => supplied_key(a, b, start),
+    }
+}
+
+// The key of its end.
+pub fn end_part<'a>(a: &'a [u8], b: &'a [u8], joined: Joined) -> &'a [u8]
+    requires { ⌜ JoinedInside (now a) (now b) joined ⌝ }
+    ensures { λ r. ⌜ now r ≡ keyOf (endKeyOf (jointOf (now (a .entry)) (now (b .entry)) joined)) ⌝ }
+{
+    match joined {
+        Joined::Stop(_) => &a[..0],
+        Joined::Nothing => &a[..0],
+        Joined::Range(_, end) => supplied_key(a, b, end),
+    }
 }
 
 // What two ranges have in common, if there is something: each bound as it was supplied.

@@ -17,8 +17,7 @@ use Rattle.format.proofs.Layouts.{number-length}
 use Rattle.format.specs.Span.{SuppliedInside, suppliedBound, boundKey}
 use Rattle.format.specs.declared.span.Supplied.{Supplied}
 use Rattle.bytes_range.proofs.RangePut.{at-front}
-use Rattle.bilqarush.specs.Calls.{startKeyOf, endKeyOf}
-use Rattle.format.specs.Span.{jointOf, JoinedInside}
+use Rattle.format.specs.Span.{jointOf, JoinedInside, startKeyOf, endKeyOf}
 use Rattle.bilqarush.specs.declared.Point.{Point}
 use Rattle.bilqarush.specs.declared.Point.the-variants.{At, Nothing as NoPoint, Stop as PointStop}
 use Rattle.format.specs.declared.span.Joined.{Joined}

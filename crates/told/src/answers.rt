@@ -14,8 +14,7 @@ ghost use lib.ListN.{length};
 ghost use Rattle.base.specs.Outcome.{lent, reported, writtenTo};
 ghost use Rattle.base.specs.Splice.{splice};
 ghost use Rattle.format.specs.Range.{kindNumber};
-ghost use Rattle.bilqarush.specs.Calls.{startKeyOf, endKeyOf};
-ghost use Rattle.format.specs.Span.{jointOf, JoinedInside};
+ghost use Rattle.format.specs.Span.{jointOf, JoinedInside, startKeyOf, endKeyOf};
 ghost use Rattle.told.specs.Layouts.{sideNumber, place, bound, supplied, nothing, pointTo, joinedTo, viewRangeTo, keyTo};
 
 fn kind_number(k: Kind) -> u8
