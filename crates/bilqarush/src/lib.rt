@@ -46,7 +46,9 @@ ghost use mathlib.Core.Path.{_≡_};
 ghost use lib.ListN.{length};
 ghost use Rattle.base.specs.Outcome.{reported, lent, testOf};
 ghost use Rattle.format.specs.Span.{JointFound};
-ghost use Rattle.bilqarush.specs.Calls.{compareOutcome, cmpBoundOutcome, nonEmptyOutcome, containsOutcome, asPointOutcome, intersectOutcome, intersectStartKeyOutcome, intersectEndKeyOutcome, unionOutcome, fromPrefixOutcome, fromPrefixAndSubrangeOutcome};
+ghost use Rattle.bilqarush.specs.Calls.{compareOutcome, cmpBoundOutcome, nonEmptyOutcome, containsOutcome, asPointOutcome};
+ghost use Rattle.bilqarush.specs.Calls.{intersectOutcome, intersectStartKeyOutcome, intersectEndKeyOutcome, unionOutcome};
+ghost use Rattle.bilqarush.specs.Calls.{fromPrefixOutcome, fromPrefixAndSubrangeOutcome};
 ghost use Rattle.bilqarush.specs.Answers.{orderOf, BothFound, joinedBy, pointAt, stopNumber, PartFound};
 
 // A comparison's answer: -1, 0 or 1, or the number of a stop.

@@ -2,7 +2,9 @@
 // not looked at.
 use key::Order;
 ghost use mathlib.Core.Path.{_≡_};
-ghost use Rattle.comparable_range.specs.Range.{boundOf, rangeOf, of, cmpBound, nonEmpty, holds, startHolds, endHolds, areAdjacent, cmpRange, startSide, endSide, intersectSides, greaterEndSide, meets, unionSides, uniteSides, exchanged, other};
+ghost use Rattle.comparable_range.specs.Range.{boundOf, rangeOf, of, cmpBound, nonEmpty, holds, startHolds, endHolds};
+ghost use Rattle.comparable_range.specs.Range.{areAdjacent, cmpRange, startSide, endSide, intersectSides, greaterEndSide};
+ghost use Rattle.comparable_range.specs.Range.{meets, unionSides, uniteSides, exchanged, other};
 ghost use Rattle.base.specs.Pick.{pick};
 ghost use Rattle.comparable_range.specs.Factors.{isKeyed, tie, keyOrder, passes};
 
