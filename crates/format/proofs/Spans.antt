@@ -83,7 +83,7 @@ module _ (d : Side) (a b : List ℕ) (x y : BoundSpan) {s : List ℕ} {o : Bound
       go First = refl
       go Second = refl
 
--- ---- supplied_key
+-- ---- bound_key
 key-back : (k : Kind) (x : Key) → isKeyed k ≡ true → boundKey (boundOf k x) ≡ x
 key-back Unbounded x h = absurd (mathlib.Core.Bool.true≢false (sym h))
 key-back Included x h = refl
@@ -94,24 +94,24 @@ no-key-back Unbounded x h = refl
 no-key-back Included x h = absurd (mathlib.Core.Bool.true≢false h)
 no-key-back Excluded x h = absurd (mathlib.Core.Bool.true≢false h)
 
-module _ (a b : List ℕ) (x : Supplied) where
-  pub first-inside : x .side ≡ First → SuppliedInside a b x → BoundInside a (x .bound)
-  first-inside h i = rw h at i
+module _ (s : List ℕ) (b : BoundSpan) {t : Bool} (e : t ≡ isKeyed (b .kind)) where
+  pub with-key : {k : Key} → t ≡ true → k ≡ part s b → k ≡ boundKey (boundIn s b)
+  with-key w q = q ∙ sym (key-back (b .kind) (part s b) (sym e ∙ w))
 
-  pub second-inside : x .side ≡ Second → SuppliedInside a b x → BoundInside b (x .bound)
-  second-inside h i = rw h at i
+  pub without-key : t ≡ false → take 0 s ≡ boundKey (boundIn s b)
+  without-key w = sym (no-key-back (b .kind) (part s b) (sym e ∙ w))
 
-  module _ {t : Bool} (e : t ≡ isKeyed (x .bound .kind)) where
-    pub first-key : {k : Key} → t ≡ true → x .side ≡ First → k ≡ part a (x .bound) → k ≡ boundKey (suppliedBound a b x)
-    first-key w h q = q ∙ sym (rw h (key-back (x .bound .kind) (part a (x .bound)) (sym e ∙ w)))
+pub ruleset key-exits = (with-key, without-key)
 
-    pub second-key : {k : Key} → t ≡ true → x .side ≡ Second → k ≡ part b (x .bound) → k ≡ boundKey (suppliedBound a b x)
-    second-key w h q = q ∙ sym (rw h (key-back (x .bound .kind) (part b (x .bound)) (sym e ∙ w)))
+-- ---- supplied_key
+module _ (a b : List ℕ) (x : Supplied) {s : List ℕ} (e : s ≡ of (x .side) a b) where
+  pub supply-inside : SuppliedInside a b x → BoundInside s (x .bound)
+  supply-inside i = rw e i
 
-    pub no-key : t ≡ false → take 0 a ≡ boundKey (suppliedBound a b x)
-    no-key w = sym (no-key-back (x .bound .kind) (part (of (x .side) a b) (x .bound)) (sym e ∙ w))
+  pub supply-key : {k : Key} → k ≡ boundKey (boundIn s (x .bound)) → k ≡ boundKey (suppliedBound a b x)
+  supply-key q = q ∙ rw e
 
-pub ruleset supply-exits = (first-inside, second-inside, first-key, second-key, no-key)
+pub ruleset supply-exits = (supply-inside, supply-key)
 
 -- ---- start_part, end_part
 module _ (a b : List ℕ) {r : Joined} where

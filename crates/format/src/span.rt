@@ -179,24 +179,25 @@ fn supplied_kind(x: Supplied) -> Kind
 }
 
 // The key of a bound, as a part of the slice that it stands in; an empty part if it has none.
+pub fn bound_key(s: &[u8], b: BoundSpan) -> &[u8]
+    requires { ⌜ BoundInside (now s) b ⌝ }
+    ensures { λ r. ⌜ now r ≡ boundKey (boundIn (now (s .entry)) b) ⌝ }
+{
+    let kind = b.kind;
+    if comparable_range::keyed(kind) {
+        return key_of(s, b);
+    }
+    &s[..0]
+}
+
+// The same of a bound that stands in one of two slices.
 pub fn supplied_key<'a>(a: &'a [u8], b: &'a [u8], x: Supplied) -> &'a [u8]
     requires { ⌜ SuppliedInside (now a) (now b) x ⌝ }
     ensures { λ r. ⌜ now r ≡ boundKey (suppliedBound (now (a .entry)) (now (b .entry)) x) ⌝ }
 {
     let side = x.side;
     let bound = x.bound;
-    let kind = bound.kind;
-    if comparable_range::keyed(kind) {
-        match side {
-            Side::First => {
-                return key_of(a, bound);
-            }
-            Side::Second => {
-                return key_of(b, bound);
-            }
-        }
-    }
-    &a[..0]
+    bound_key(slice_of(side, a, b), bound)
 }
 
 // The key of an intersection's start, as a part of the slice that supplied it; an empty part where there is none.

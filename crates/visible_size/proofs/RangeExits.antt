@@ -1,46 +1,19 @@
--- What `bound_key`, `same_range` and `ranges_fraction` know where they return.
+-- What `same_range` and `ranges_fraction` know where they return.
 -- Assumes nothing.
 use Prim.Native.Nat.{ℕ}
 use mathlib.Core.Path.{_≡_, refl, sym, _∙_}
 use mathlib.Core.Bool.{Bool, true, false, true≢false}
-use mathlib.Core.List.{List, []}
-use lib.ListN.{take, drop}
 use lib.Dec.{T}
 use lib.Ieee.{Float, le}
 use Rattle.key.specs.Order.{Key, isEqual, orElse}
 use Rattle.key.specs.declared.Order.{Order}
 use Rattle.key.specs.declared.Order.the-variants.{Less, Equal, Greater}
-use Rattle.comparable_range.specs.Range.{Range, boundOf, cmpBound, cmpRange}
-use Rattle.comparable_range.specs.Factors.{isKeyed}
-use Rattle.comparable_range.specs.declared.Kind.{Kind}
-use Rattle.comparable_range.specs.declared.Kind.the-variants.{Unbounded, Included, Excluded}
-use Rattle.format.specs.Range.{boundIn}
+use Rattle.comparable_range.specs.Range.{Range, cmpBound, cmpRange}
 use Rattle.format.specs.Span.{boundKey}
-use Rattle.format.specs.declared.range.BoundSpan.{BoundSpan}
 use Rattle.visible_size.specs.Steps.{one64, commonPrefixLen, rangeLen, lengthsFraction, skipOf, sameRange, rangesFraction}
 use Rattle.visible_size.specs.Numbers.{RangeLen, FractionFound}
 use Rattle.visible_size.specs.declared.VisibleFraction.{VisibleFraction}
 use Rattle.visible_size.specs.declared.VisibleFraction.the-variants.{Whole}
-
--- ---- bound_key
-key-back : (k : Kind) (x : Key) → isKeyed k ≡ true → boundKey (boundOf k x) ≡ x
-key-back Unbounded x h = absurd (true≢false (sym h))
-key-back Included x h = refl
-key-back Excluded x h = refl
-
-no-key-back : (k : Kind) (x : Key) → isKeyed k ≡ false → boundKey (boundOf k x) ≡ []
-no-key-back Unbounded x h = refl
-no-key-back Included x h = absurd (true≢false h)
-no-key-back Excluded x h = absurd (true≢false h)
-
-module _ (s : List ℕ) (b : BoundSpan) {t : Bool} (e : t ≡ isKeyed (b .kind)) where
-  pub with-key : {k : Key} → t ≡ true → k ≡ take (b .len) (drop (b .at) s) → k ≡ boundKey (boundIn s b)
-  with-key w q = q ∙ sym (key-back (b .kind) (take (b .len) (drop (b .at) s)) (sym e ∙ w))
-
-  pub without-key : t ≡ false → take 0 s ≡ boundKey (boundIn s b)
-  without-key w = sym (no-key-back (b .kind) (take (b .len) (drop (b .at) s)) (sym e ∙ w))
-
-pub ruleset key-exits = (with-key, without-key)
 
 -- ---- same_range
 first-equal : (o p : Order) → isEqual o ≡ true → isEqual p ≡ isEqual (orElse o p)

@@ -1,9 +1,9 @@
 // The part of a table that a view shows.
 use crate::VisibleFraction;
-use crate::keys::bound_key;
 use crate::keys::common_prefix_len;
 use crate::keys::range_len;
 use format::span::RangeSpan;
+use format::span::bound_key;
 ghost use mathlib.Core.Path.{_≡_};
 ghost use lib.Dec.{T};
 ghost use lib.Ieee.{le};

@@ -6,7 +6,6 @@ use format::span::RangeSpan;
 ghost use mathlib.Core.Path.{_≡_};
 ghost use Prim.Native.Nat.{_<_};
 ghost use Rattle.format.specs.Range.{BoundInside, boundIn, rangeIn};
-ghost use Rattle.format.specs.Span.{boundKey};
 ghost use Rattle.visible_size.specs.Steps.{commonPrefixLen};
 ghost use Rattle.visible_size.specs.Steps as steps;
 ghost use Rattle.visible_size.specs.Numbers.{InUnit, KeyNumber, BoundNumber, RangeLen};
@@ -67,18 +66,6 @@ pub fn common_prefix_len(a: &[u8], b: &[u8]) -> usize
         i += 1;
     }
     i
-}
-
-// The key of a bound, empty where it has none.
-pub fn bound_key(s: &[u8], b: BoundSpan) -> &[u8]
-    requires { ⌜ BoundInside (now s) b ⌝ }
-    ensures { λ r. ⌜ now r ≡ boundKey (boundIn (now (s .entry)) b) ⌝ }
-{
-    let kind = b.kind;
-    if comparable_range::keyed(kind) {
-        return key_of(s, b);
-    }
-    &s[..0]
 }
 
 // The number of a bound; without a key, that of its side.

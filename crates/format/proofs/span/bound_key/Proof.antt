@@ -1,9 +1,9 @@
--- `visible_size::keys::bound_key` meets its contract, by the kind of the bound.
+-- `format::span::bound_key` meets its contract, by the kind of the bound.
 -- Assumes nothing.
 use borrow.Author.Needs.{needs}
-use Rattle.visible_size.proofs.RangeExits.{key-exits}
-use Rattle.visible_size.proofs.keys.bound_key.Statement.{statement}
-use Rattle.visible_size.proofs.keys.bound_key.Tie as tie
+use Rattle.format.proofs.Spans.{key-exits}
+use Rattle.format.proofs.span.bound_key.Statement.{statement}
+use Rattle.format.proofs.span.bound_key.Tie as tie
 
 keyed-requires : tie.Need-keyed-requires
 keyed-requires c κs = search needs
