@@ -4,3 +4,8 @@ pub mod Table
 pub mod Outcome
 pub mod Splice
 pub mod Lists
+pub mod Sort
+pub mod SortLaws
+pub mod SortMore
+pub mod StableSort
+pub mod StableSortLaws

@@ -15,7 +15,8 @@ use Rattle.incremental_progress.specs.Parts.{intervals}
 use Rattle.incremental_progress.specs.Jobs.{isOutput, others}
 use Rattle.incremental_progress.specs.Checks.{covered, outputViewsCovered}
 use Rattle.base.specs.Lists.{All, All-map, All-of, All-both, All-append, All-flatMap, All-mapped}
-use Rattle.incremental_progress.proofs.Sort.{All-sort}
+use Rattle.base.specs.SortLaws.{All-sort}
+use Rattle.comparable_range.specs.Cut.{cutAtMost}
 use Rattle.incremental_progress.proofs.Views.{piece-table}
 use Rattle.incremental_progress.proofs.Publish.{good-job}
 use Rattle.incremental_progress.proofs.Commit.{Parts, sound, Passes}
@@ -71,7 +72,7 @@ destination-covered : (j : Job) → Parts j → (vs : List View)
     → All (λ v. IsCovered j v ≡ true) (cutDestination (intervals (j .parts)) (flatMap published (j .parts)) (others (j .parts) vs))
 unfolding cutDestination cutRun
 destination-covered j a vs =
-    All-sort start (λ v. IsCovered j v ≡ true) _
+    All-sort cutAtMost start (λ v. IsCovered j v ≡ true) _
     (All-append (λ v. IsCovered j v ≡ true) (flatMap (retained (intervals (j .parts))) (others (j .parts) vs)) (flatMap published (j .parts))
     (All-flatMap (λ v. isOutput (j .parts) (v .table) ≡ false) (λ v. IsCovered j v ≡ true) (retained (intervals (j .parts))) (λ v e. pieces-covered j v e) (others (j .parts) vs) (other-tables (j .parts) vs))
     (outs-covered j a))

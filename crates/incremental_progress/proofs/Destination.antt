@@ -8,23 +8,25 @@ use mathlib.Core.Bool.{Bool, false}
 use mathlib.Core.List.{List, [], _∷_, _++_, map, flatMap, append-nil}
 use Rattle.base.specs.Pick.{pick}
 use Rattle.key.specs.Order.{Key}
-use Rattle.comparable_range.specs.Cut.{Cut, _≼_, endCut}
+use Rattle.comparable_range.specs.Cut.{Cut, cutAtMost, _≼_, endCut}
 use Rattle.comparable_range.proofs.Cut.{≼-trans, ≼-refl, ≼-not-≺, ≺-≼-trans, order}
 use Rattle.records.specs.Values.{Table, View}
 use Rattle.manifest.specs.Ranges.{effective}
 use Rattle.incremental_progress.specs.Intervals.{Interval, cutOut, anyHolds}
-use Rattle.incremental_progress.specs.Sort.{insert, sort}
 use Rattle.incremental_progress.specs.Views.{start, shown}
 use Rattle.incremental_progress.proofs.Marked.{piece, retained, cutRun, cutDestination}
 use Rattle.base.specs.Lists.{All, All-map, All-of, All-mapped, All-unmapped, All-both, All-flatMap, All-forall, Pairwise, Pairwise-append, Pairwise-all, Pairwise-map, flatMap-append, flatMap-none}
-use Rattle.incremental_progress.proofs.Sort.{at, eq-cut, eq-cut-before, eq-cut-after, Sorted, at-none, Untied, sort-between, insert-first, insert-next}
+use Rattle.base.specs.Sort.{insert, sort}
+use Rattle.base.specs.StableSort.{at, alike}
+use Rattle.base.specs.StableSortLaws.{at-none}
+use Rattle.incremental_progress.proofs.Sort.{alike-before, alike-after, Sorted, Untied, sort-between, insert-first, insert-next}
 use Rattle.incremental_progress.proofs.Cutting.{Grown}
 use Rattle.incremental_progress.proofs.Subtraction.{cuts, spanOf, cut-out-cuts, Sound, All-spans}
 use Rattle.incremental_progress.proofs.Pieces.{Inside, Has, Starts, floors, floors-mono, starts-cut}
 use Rattle.incremental_progress.proofs.Views.{Showing, cut-inside, effective-piece, cut-run-later, shown-append, shown-cut-run}
 
 -- ---- what it shows
-shown-insert : (p : Table → Bool) (x : Key) (v : View) (vs : List View) → shown p x (insert start v vs) ≡ shown p x (v ∷ vs)
+shown-insert : (p : Table → Bool) (x : Key) (v : View) (vs : List View) → shown p x (insert cutAtMost start v vs) ≡ shown p x (v ∷ vs)
 unfolding shown insert
 shown-insert p x v [] = refl
 shown-insert p x v (w ∷ vs) =
@@ -33,10 +35,10 @@ shown-insert p x v (w ∷ vs) =
       | inr h ↦ rw (insert-next start vs h) (omega (arith, shown-insert p x v vs))
     ]
 
-pub shown-sort : (p : Table → Bool) (x : Key) (vs : List View) → shown p x (sort start vs) ≡ shown p x vs
+pub shown-sort : (p : Table → Bool) (x : Key) (vs : List View) → shown p x (sort cutAtMost start vs) ≡ shown p x vs
 unfolding sort shown
 shown-sort p x [] = refl
-shown-sort p x (v ∷ vs) = shown-insert p x v (sort start vs) ∙ rw (shown-sort p x vs)
+shown-sort p x (v ∷ vs) = shown-insert p x v (sort cutAtMost start vs) ∙ rw (shown-sort p x vs)
 
 -- Outside the intervals the destination shows a key as it did, and inside not at all; and the outputs besides.
 pub shown-destination : (p : Table → Bool) (x : Key) (ivs : List Interval) → All Sound ivs → (outs vs : List View) → All Showing vs
@@ -52,18 +54,18 @@ retained-inside ivs v n =
     (All-map {Q = λ r. Inside (cuts (effective (piece v r))) (cuts (effective v))} (λ r h. rw (effective-piece v r h) h) (cutOut ivs (effective v ∷ [])) (cut-inside ivs (effective v) n))
 
 -- no piece starts at a cut that the view does not hold
-at-outside : (ivs : List Interval) (c : Cut) (v : View) → Showing v → (at start c (retained ivs v) ≡ []) ⊎ Has c (cuts (effective v))
+at-outside : (ivs : List Interval) (c : Cut) (v : View) → Showing v → (at cutAtMost start c (retained ivs v) ≡ []) ⊎ Has c (cuts (effective v))
 at-outside ivs c v n =
     elim (order (start v) c) [
-      | inr h ↦ inl (none (λ w k. eq-cut-after (≺-≼-trans h (k .starts))))
+      | inr h ↦ inl (none (λ w k. alike-after (≺-≼-trans h (k .starts))))
       | inl h ↦ elim (order (endCut (effective v .end)) c) [
-        | inl l ↦ inl (none (λ w k. eq-cut-before (≺-≼-trans (k .runs) (≼-trans (k .ends) l))))
+        | inl l ↦ inl (none (λ w k. alike-before (≺-≼-trans (k .runs) (≼-trans (k .ends) l))))
         | inr l ↦ inr (h, l)
       ]
     ]
   where
-    none : ((w : View) → Inside (cuts (effective w)) (cuts (effective v)) → eq-cut (start w) c ≡ false) → at start c (retained ivs v) ≡ []
-    none f = at-none start c (retained ivs v) (All-map f (retained ivs v) (retained-inside ivs v n))
+    none : ((w : View) → Inside (cuts (effective w)) (cuts (effective v)) → alike cutAtMost (start w) c ≡ false) → at cutAtMost start c (retained ivs v) ≡ []
+    none f = at-none cutAtMost start c (retained ivs v) (All-map f (retained ivs v) (retained-inside ivs v n))
 
 -- of two that hold one cut the first starts no later
 abbrev InOrder : View → View → Type 0
@@ -121,7 +123,7 @@ pub destination-later : {c : Cut} (es ls : List Interval) → Grown c (map spanO
 unfolding cutDestination cutRun at
 destination-later es ls g a outs outs′ vs v n s =
     sort-between start (retained ls) (cutRun es vs ++ outs) outs′ boundsPass
-    ∙ ap (λ (t : List View). sort start (t ++ outs′)) same
+    ∙ ap (λ (t : List View). sort cutAtMost start (t ++ outs′)) same
   where
     same : flatMap (retained ls) (cutRun es vs ++ outs) ≡ cutRun ls vs
     same = flatMap-append (retained ls) (cutRun es vs) outs
@@ -131,5 +133,5 @@ destination-later es ls g a outs outs′ vs v n s =
     boundsPass =
         Pairwise-append (Untied start (retained ls)) (cutRun es vs) outs
         (Pairwise-map Showing InOrder (Untied start (retained ls)) (λ x y p q o. untied ls x y p q o) (cutRun es vs) (run-showing es vs n) (run-in-order es a vs n s))
-        (Pairwise-all (Vanish ls) (Untied start (retained ls)) (λ x y p q h c. inl (ap (at start c) p)) outs v)
-        (All-of (λ x. All-map (λ y q h c. inr (ap (at start c) q)) outs v) (cutRun es vs))
+        (Pairwise-all (Vanish ls) (Untied start (retained ls)) (λ x y p q h c. inl (ap (at cutAtMost start c) p)) outs v)
+        (All-of (λ x. All-map (λ y q h c. inr (ap (at cutAtMost start c) q)) outs v) (cutRun es vs))

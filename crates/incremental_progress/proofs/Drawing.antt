@@ -13,7 +13,6 @@ use Rattle.base.specs.Pick.{pick}
 use Rattle.records.specs.Values.{View, Run, Image, Part, Job}
 use Rattle.records.specs.declared.ids.ViewId.{ViewId}
 use Rattle.manifest.specs.Checks.{has}
-use Rattle.incremental_progress.specs.Sort.{sort}
 use Rattle.incremental_progress.specs.Views.{start}
 use Rattle.incremental_progress.specs.Parts.{intervals}
 use Rattle.incremental_progress.specs.Jobs.{isOutput, others}
@@ -21,7 +20,9 @@ use Rattle.incremental_progress.specs.Ids.{randomLength}
 use Rattle.incremental_progress.specs.Draws.{Ten, tens, supply, Drawn, used-up, got, next, isOld, draw, fill, fillAll, fillViews, fillRuns, fillCommit}
 use Rattle.incremental_progress.specs.Entries.{Entry, viewEntries, runEntries, partEntries}
 use Rattle.base.specs.Lists.{All, All-append, All-flatMap}
-use Rattle.incremental_progress.proofs.Sort.{All-sort}
+use Rattle.base.specs.Sort.{sort}
+use Rattle.base.specs.SortLaws.{All-sort}
+use Rattle.comparable_range.specs.Cut.{cutAtMost}
 use Rattle.incremental_progress.proofs.NewRuns.{fill-by-kind}
 
 -- ---- the supply: each draw has ten bytes
@@ -99,12 +100,12 @@ module _ (H : View → Type 0) (E : Entry → Type 0) (fill-keeps : (e : Entry) 
         left = runEntries (intervals (j .parts)) (others (j .parts) (r .views))
 
         go : (a b : Bool) → eqb (r .id) (j .destination) ≡ a → has (r .id) (j .sources) ≡ b
-            → Of (All H) (pick a (next (fillAll left s) (λ ws s. got (sort start (ws ++ outs)) s)) (pick b (fillAll entries s) (got (r .views) s)))
+            → Of (All H) (pick a (next (fillAll left s) (λ ws s. got (sort cutAtMost start (ws ++ outs)) s)) (pick b (fillAll entries s) (got (r .views) s)))
         go true b p q =
             let e = h .entries (rw (eqb-true (r .id) (j .destination) p) is-source) in
             next-of (All H) (All H) (fillAll left s) _
             (fillAll-keeps left s (entries-of (others (j .parts) (r .views)) (All-others _ (j .parts) (r .views) e)) t)
-            (λ ws u k x. (All-sort start H (ws ++ outs) (All-append H ws outs k o), x))
+            (λ ws u k x. (All-sort cutAtMost start H (ws ++ outs) (All-append H ws outs k o), x))
         go false true p q = fillAll-keeps entries s (entries-of (r .views) (h .entries q)) t
         go false false p q = (h .views, t)
 

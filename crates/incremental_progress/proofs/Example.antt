@@ -9,6 +9,7 @@ use lib.Dec.{ltb}
 use borrow.Author.Tests.{ltb-true}
 use Rattle.base.specs.Bytes.{Bytes, bytes-none, bytes-cons}
 use Rattle.base.specs.Outcome.{answer, stop}
+use Rattle.base.specs.Sort.{insert, sort}
 use Rattle.key.specs.Order.{cmpNumber, cmpKey}
 use Rattle.key.specs.Word.{digits}
 use Rattle.comparable_range.specs.Range.{Range, unbounded, included, excluded, cmpBound, boundsPass, startHolds, endHolds, holds, startSide, endSide, intersectSides}
@@ -23,7 +24,6 @@ use Rattle.records.specs.Layouts.{flagOf, countOf, viewCountOf, outputsOf, tabl
 use Rattle.manifest.specs.Ranges.{effective}
 use Rattle.manifest.specs.Checks.{all, visiblePasses, keysInOrder, tablePasses, ascendFrom, has, distinct, sizePasses, imageChecks, jobChecks}
 use Rattle.incremental_progress.specs.Intervals.{partBefore, partFrom, subtractFrom, cutOut, anyHolds}
-use Rattle.incremental_progress.specs.Sort.{insert, sort}
 use Rattle.incremental_progress.specs.Views.{sameRange, shown}
 use Rattle.incremental_progress.specs.Parts.{lastWritten, isKey, upToKey, durable, intervals, openKey, listings, listedIn, same-end, part-by-part}
 use Rattle.incremental_progress.specs.Jobs.{among, isOutput, others, leftEntries, withOutputs, commitRuns, expected}

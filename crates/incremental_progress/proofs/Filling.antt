@@ -2,7 +2,7 @@
 -- Assumes nothing.
 use Prim.Native.Nat.{ℕ}
 use native.Mathlib.Omega.{arith}
-use mathlib.Core.Path.{_≡_, refl, sym, _∙_}
+use mathlib.Core.Path.{_≡_, refl, sym, _∙_, ap, fun-ext}
 use mathlib.Core.Bool.{Bool, true, false}
 use mathlib.Core.Option.{Option, none, some}
 use mathlib.Core.List.{List, [], _∷_, _++_, map, flatMap}
@@ -11,13 +11,12 @@ use lib.ListN.{length, take}
 use Rattle.base.specs.Pick.{pick}
 use Rattle.key.specs.Order.{Key}
 use Rattle.comparable_range.specs.Range.{Range, nonEmpty, overlap}
-use Rattle.comparable_range.specs.Cut.{cutAtMost}
+use Rattle.comparable_range.specs.Cut.{Cut, cutAtMost}
 use Rattle.records.specs.Values.{Table, View, Run, Image, Part, Job}
 use Rattle.records.specs.declared.ids.ViewId.{ViewId}
 use Rattle.manifest.specs.Ranges.{own, effective}
 use Rattle.manifest.specs.Checks.{has}
 use Rattle.incremental_progress.specs.Intervals.{Interval, listed, toRange, cutOut}
-use Rattle.incremental_progress.specs.Sort.{insert, sort}
 use Rattle.incremental_progress.specs.Views.{start, sameRange}
 use Rattle.incremental_progress.proofs.Marked.{onlyTime, cutView, piece, retained, cutRun, cutDestination, publish, published, markedViews, markedRuns, marked, Fills, kept, drawn, Each, no-more, and, same-id, FillsImage, Closed, AllClosed, none-left, one-more, ClosedImage, no-runs, one-run, FullTables, no-tables, one-table, FullParts, no-parts, one-part}
 use Rattle.incremental_progress.specs.Parts.{isKey, durable, intervals, identity, openKey}
@@ -26,7 +25,9 @@ use Rattle.incremental_progress.specs.Draws.{Ten, Drawn, used-up, got, n
 use Rattle.incremental_progress.specs.Ids.{timeLength, timeOf}
 use Rattle.incremental_progress.specs.Entries.{Entry, whole, cut, entryStart, pieceEntry, viewEntries, runEntries, outputEntries, partEntries}
 use Rattle.base.specs.Lists.{All, All-of, All-append, All-mapped, map-append, map-flatMap, take-front}
-use Rattle.incremental_progress.proofs.Sort.{All-sort}
+use Rattle.base.specs.Sort.{sort}
+use Rattle.base.specs.SortLaws.{All-sort}
+use Rattle.base.specs.SortMore.{sort-map}
 use Rattle.incremental_progress.proofs.NewRuns.{fill-by-kind}
 use Rattle.incremental_progress.proofs.Ids.{Each-append, fills-sort, fills-self}
 
@@ -118,20 +119,8 @@ unfolding effective
 marked-start (whole v) = refl
 marked-start (cut v r) = refl
 
-insert-marked : (e : Entry) (es : List Entry) → map marked (insert entryStart e es) ≡ insert start (marked e) (map marked es)
-unfolding insert
-insert-marked e [] = refl
-insert-marked e (d ∷ es) = rw (marked-start e, marked-start d) (go (cutAtMost (entryStart e) (entryStart d)) (insert-marked e es))
-  where
-    go : (b : Bool) → map marked (insert entryStart e es) ≡ insert start (marked e) (map marked es)
-        → map marked (pick b (e ∷ d ∷ es) (d ∷ insert entryStart e es)) ≡ pick b (marked e ∷ marked d ∷ map marked es) (marked d ∷ insert start (marked e) (map marked es))
-    go true h = refl
-    go false h = rw h
-
-sort-marked : (es : List Entry) → map marked (sort entryStart es) ≡ sort start (map marked es)
-unfolding sort
-sort-marked [] = refl
-sort-marked (e ∷ es) = insert-marked e (sort entryStart es) ∙ rw (sort-marked es)
+sort-marked : (es : List Entry) → map marked (sort cutAtMost entryStart es) ≡ sort cutAtMost start (map marked es)
+sort-marked es = sym (sort-map cutAtMost start marked es ∙ ap (λ (k : Entry → Cut). map marked (sort cutAtMost k es)) (fun-ext marked-start))
 
 whole-marked : (vs : List View) → map marked (map whole vs) ≡ vs
 whole-marked [] = refl
@@ -157,8 +146,8 @@ views-marked j n vs = go (eqb n (j .destination)) (has n (j .sources))
     left = runEntries ivs (others (j .parts) vs)
 
     go : (d m : Bool)
-        → pick d (sort start (cutRun ivs (others (j .parts) vs) ++ flatMap published (j .parts))) (pick m (cutRun ivs vs) vs)
-        ≡ map marked (pick d (sort entryStart (pick d left (pick m (runEntries ivs vs) (map whole vs)) ++ outputsOf j)) (pick d left (pick m (runEntries ivs vs) (map whole vs))))
+        → pick d (sort cutAtMost start (cutRun ivs (others (j .parts) vs) ++ flatMap published (j .parts))) (pick m (cutRun ivs vs) vs)
+        ≡ map marked (pick d (sort cutAtMost entryStart (pick d left (pick m (runEntries ivs vs) (map whole vs)) ++ outputsOf j)) (pick d left (pick m (runEntries ivs vs) (map whole vs))))
     go true m = sym (sort-marked (left ++ outputsOf j) ∙ rw (map-append marked left, run-marked ivs (others (j .parts) vs), outputs-marked j))
     go false true = sym (run-marked ivs vs)
     go false false = sym (whole-marked vs)
@@ -185,8 +174,8 @@ views-full j f n vs c = go (eqb n (j .destination)) (has n (j .sources))
     left : List Entry
     left = runEntries ivs (others (j .parts) vs)
 
-    go : (d m : Bool) → All Full (pick d (sort entryStart (pick d left (pick m (runEntries ivs vs) (map whole vs)) ++ outputsOf j)) (pick d left (pick m (runEntries ivs vs) (map whole vs))))
-    go true m = All-sort entryStart Full (left ++ outputsOf j) (All-append Full left (outputsOf j) (run-full ivs (others-closed (j .parts) c)) (parts-full f))
+    go : (d m : Bool) → All Full (pick d (sort cutAtMost entryStart (pick d left (pick m (runEntries ivs vs) (map whole vs)) ++ outputsOf j)) (pick d left (pick m (runEntries ivs vs) (map whole vs))))
+    go true m = All-sort cutAtMost entryStart Full (left ++ outputsOf j) (All-append Full left (outputsOf j) (run-full ivs (others-closed (j .parts) c)) (parts-full f))
     go false true = run-full ivs c
     go false false = whole-full c
 
@@ -246,12 +235,12 @@ module _ (j : Job) (outs : List View) (a : Each Fills (flatMap published (j .par
       ivs = intervals (j .parts)
 
       go : (d m : Bool)
-          → pick d (next (fillAll (runEntries ivs (others (j .parts) vs)) s) (λ ws s. got (sort start (ws ++ outs)) s)) (pick m (fillAll (runEntries ivs vs) s) (got vs s)) ≡ got ws t
-          → Each Fills (pick d (sort start (cutRun ivs (others (j .parts) vs) ++ flatMap published (j .parts))) (pick m (cutRun ivs vs) vs)) ws
+          → pick d (next (fillAll (runEntries ivs (others (j .parts) vs)) s) (λ ws s. got (sort cutAtMost start (ws ++ outs)) s)) (pick m (fillAll (runEntries ivs vs) s) (got vs s)) ≡ got ws t
+          → Each Fills (pick d (sort cutAtMost start (cutRun ivs (others (j .parts) vs) ++ flatMap published (j .parts))) (pick m (cutRun ivs vs) vs)) ws
       go true m e =
           let h = through (fillAll (runEntries ivs (others (j .parts) vs)) s) _ ws t e in
           let g = h .second in
-          let f : sort start (h .value ++ outs) ≡ ws = cc in
+          let f : sort cutAtMost start (h .value ++ outs) ≡ ws = cc in
           rw (← f) (fills-sort (Each-append (rw run-marked at (all-fills _ (run-full ivs (others-closed (j .parts) c)) s (h .value) (h .rest) (h .first))) a))
       go false true e = rw run-marked at (all-fills (runEntries ivs vs) (run-full ivs c) s ws t e)
       go false false e = let f : vs ≡ ws = cc in rw f (fills-self ws)

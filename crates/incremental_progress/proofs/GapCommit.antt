@@ -6,11 +6,10 @@ use mathlib.Core.List.{List, [], _∷_, _++_, flatMap, flatten}
 use lib.Dec.{eqb}
 use Rattle.base.specs.Pick.{pick, and-first}
 use Rattle.comparable_range.specs.Range.{Range}
-use Rattle.comparable_range.specs.Cut.{below}
+use Rattle.comparable_range.specs.Cut.{cutAtMost, below}
 use Rattle.records.specs.Values.{View, Run, Image, Job}
 use Rattle.manifest.specs.Checks.{all, has, tablePasses, ascend, starts, imageChecks}
 use Rattle.incremental_progress.specs.Intervals.{Interval}
-use Rattle.incremental_progress.specs.Sort.{sort}
 use Rattle.incremental_progress.specs.Views.{start}
 use Rattle.incremental_progress.specs.Parts.{intervals}
 use Rattle.incremental_progress.specs.Jobs.{isOutput, others}
@@ -19,6 +18,7 @@ use Rattle.incremental_progress.specs.Draws.{Ten, Drawn, used-up, got, n
 use Rattle.incremental_progress.specs.Entries.{runEntries}
 use Rattle.incremental_progress.specs.Gaps.{gaps, gapEntries, byGap, runGaps, placed, fillParts, gapViews, gapRuns, gapCommit}
 use Rattle.base.specs.Lists.{All, All-both}
+use Rattle.base.specs.Sort.{sort}
 use Rattle.incremental_progress.proofs.Job.{Planned}
 use Rattle.incremental_progress.proofs.Checks.{all-each, job-parts, Checked}
 use Rattle.incremental_progress.proofs.ByGaps.{run-entries-by-gaps}
@@ -61,7 +61,7 @@ module _ (j : Job) (a : Planned below (j .parts)) (outs : List (List View)) (s�
           (b : Bool)
           → (not b || Replaced j vs) ≡ true
           → (c : Bool)
-          → pick b (next (fillAll (runEntries ivs (others (j .parts) vs)) s) (λ ws s. got (sort start (ws ++ flatten outs)) s))
+          → pick b (next (fillAll (runEntries ivs (others (j .parts) vs)) s) (λ ws s. got (sort cutAtMost start (ws ++ flatten outs)) s))
           (pick c (fillAll (runEntries ivs vs) s) (got vs s))
           ≡ pick b (next (fillAll (flatMap (gapEntries gs) vs) s) (λ ws s. got (byGap 0 outs (placed (runGaps gs vs) ws)) s))
           (pick c (fillAll (flatMap (gapEntries gs) vs) s) (got vs s))

@@ -14,7 +14,6 @@ use Rattle.records.specs.Values.{View, Part}
 use Rattle.manifest.specs.Ranges.{effective}
 use Rattle.manifest.specs.Checks.{all, tablePasses, ascendFrom, ascend, starts}
 use Rattle.incremental_progress.specs.Intervals.{Interval, cutOut}
-use Rattle.incremental_progress.specs.Sort.{sort}
 use Rattle.incremental_progress.specs.Views.{start, sameRange}
 use Rattle.incremental_progress.proofs.Marked.{piece, marked}
 use Rattle.incremental_progress.specs.Parts.{intervals}
@@ -24,6 +23,7 @@ use Rattle.incremental_progress.specs.Draws.{Ten, Drawn, used-up, got, n
 use Rattle.incremental_progress.specs.Entries.{whole, cut, pieceEntry, viewEntries, runEntries}
 use Rattle.incremental_progress.specs.Gaps.{gaps, pieces, runGaps, placed, byGap, fillParts}
 use Rattle.base.specs.Lists.{All, All-map, map-alike, map-flatMap, flatMap-alike}
+use Rattle.base.specs.Sort.{sort}
 use Rattle.incremental_progress.proofs.Sort.{Sorted}
 use Rattle.incremental_progress.proofs.Subtraction.{cuts}
 use Rattle.incremental_progress.proofs.Pieces.{Inside}
@@ -118,7 +118,7 @@ module _ (ps : List Part) (a : Planned below ps) where
       → fillAll (runEntries (intervals ps) vs) s ≡ got ws t
       → (s′ : List Ten) (outs : List (List View)) (t′ : List Ten)
       → fillParts ps s′ ≡ got outs t′
-      → sort start (ws ++ flatten outs) ≡ byGap 0 outs (placed (runGaps (gaps (intervals ps)) vs) ws)
+      → sort cutAtMost start (ws ++ flatten outs) ≡ byGap 0 outs (placed (runGaps (gaps (intervals ps)) vs) ws)
   destination-by-gaps vs h o s ws t e s′ outs t′ e′ =
       let ivs = intervals ps in
       let ns = runGaps (gaps ivs) vs in
@@ -128,7 +128,7 @@ module _ (ps : List Part) (a : Planned below ps) where
       let falls = All-starts start (λ n c. FallsIn fromCut toCut below ivs n c) ns ws (rw at (run-falls ivs vs each)) in
       let in-order = in-step-starts start ns ws (rw at (run-in-step ivs vs each (starts-sorted vs o))) in
       sym (by-gap-is-sort fromCut toCut start (placed ns ws) (intervals-ascend a) (outs-in a s′ outs t′ e′) falls in-order
-      ∙ ap (λ (l : List View). sort start (l ++ flatten outs)) (placed-items ns ws many))
+      ∙ ap (λ (l : List View). sort cutAtMost start (l ++ flatten outs)) (placed-items ns ws many))
 
   -- The same as a step of the commit, with the views that it drops left in.
   pub fill-destination :
@@ -139,12 +139,12 @@ module _ (ps : List Part) (a : Planned below ps) where
       → (s′ : List Ten) (outs : List (List View)) (t′ : List Ten)
       → fillParts ps s′ ≡ got outs t′
       → (s : List Ten)
-      → next (fillAll (runEntries (intervals ps) (others ps vs)) s) (λ ws s. got (sort start (ws ++ flatten outs)) s)
+      → next (fillAll (runEntries (intervals ps) (others ps vs)) s) (λ ws s. got (sort cutAtMost start (ws ++ flatten outs)) s)
       ≡ next (fillAll (runEntries (intervals ps) vs) s) (λ ws s. got (byGap 0 outs (placed (runGaps (gaps (intervals ps)) vs) ws)) s)
   fill-destination vs h o c s′ outs t′ e′ s = rw (others-entries ps vs c) (go (fillAll (runEntries (intervals ps) vs) s) refl)
     where
       go : (d : Drawn (List View)) → fillAll (runEntries (intervals ps) vs) s ≡ d
-          → next d (λ ws s. got (sort start (ws ++ flatten outs)) s)
+          → next d (λ ws s. got (sort cutAtMost start (ws ++ flatten outs)) s)
           ≡ next d (λ ws s. got (byGap 0 outs (placed (runGaps (gaps (intervals ps)) vs) ws)) s)
       go used-up e = refl
       go (got ws t) e = rw (destination-by-gaps vs h o s ws t e s′ outs t′ e′)

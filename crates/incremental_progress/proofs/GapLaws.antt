@@ -8,12 +8,14 @@ use mathlib.Core.Bool.{false}
 use mathlib.Core.List.{List, [], _∷_, _++_, map, flatten, append-nil}
 use lib.Dec.{eqb, eqb·zero-suc, eqb·suc-zero, eqb·suc-suc}
 use Rattle.base.specs.Pick.{pick}
-use Rattle.comparable_range.specs.Cut.{Cut, _≼_, _≺_}
-use Rattle.incremental_progress.specs.Sort.{sort}
+use Rattle.comparable_range.specs.Cut.{Cut, cutAtMost, _≼_, _≺_}
 use Rattle.incremental_progress.specs.Gaps.{Placed, inGap, byGap}
 use Rattle.comparable_range.proofs.Cut.{≼-trans, ≺-≼, ≺-≼-trans, order}
 use Rattle.base.specs.Lists.{All, All-map, All-append, All-mapped, Pairwise, Pairwise-append}
-use Rattle.incremental_progress.proofs.Sort.{eq-cut, eq-cut-before, eq-cut-after, at, at-none, at-append, Sorted, sort-sorted, sort-stable, sort-unique}
+use Rattle.base.specs.Sort.{sort}
+use Rattle.base.specs.StableSort.{alike, at}
+use Rattle.base.specs.StableSortLaws.{at-none, at-append, sort-stable}
+use Rattle.incremental_progress.proofs.Sort.{cut-preorder, alike-before, alike-after, Sorted, sort-sorted, sort-unique}
 
 -- ---- gaps between intervals that ascend
 module _ {I : Type 0} (from to : I → Cut) where
@@ -105,34 +107,34 @@ module _ {A : Type 0} (start : A → Cut) where
       go (suc g) x f b = (All-lower (InStep (record { gap = g; item = x })) ps (All-map (λ q h n e i. h (ap suc i ∙ sym e)) ps f), b)
 
   -- ---- those that start at a cut
-  at-first : (d : Cut) (ps : List (Placed A)) → All (λ p. (g : ℕ) → p .gap ≡ suc g → eq-cut (start (p .item)) d ≡ false) ps
-      → at start d (map (λ p. p .item) ps) ≡ at start d (inGap 0 ps)
+  at-first : (d : Cut) (ps : List (Placed A)) → All (λ p. (g : ℕ) → p .gap ≡ suc g → alike cutAtMost (start (p .item)) d ≡ false) ps
+      → at cutAtMost start d (map (λ p. p .item) ps) ≡ at cutAtMost start d (inGap 0 ps)
   unfolding inGap at
   at-first d [] a = refl
   at-first d (p ∷ ps) a = rw (at-first d ps (a .1)) (go (p .gap) (p .item) (a .0))
     where
-      go : (g : ℕ) (x : A) → ((n : ℕ) → g ≡ suc n → eq-cut (start x) d ≡ false)
-          → pick (eq-cut (start x) d) (x ∷ at start d (inGap 0 ps)) (at start d (inGap 0 ps)) ≡ at start d (pick (eqb g 0) (x ∷ inGap 0 ps) (inGap 0 ps))
+      go : (g : ℕ) (x : A) → ((n : ℕ) → g ≡ suc n → alike cutAtMost (start x) d ≡ false)
+          → pick (alike cutAtMost (start x) d) (x ∷ at cutAtMost start d (inGap 0 ps)) (at cutAtMost start d (inGap 0 ps)) ≡ at cutAtMost start d (pick (eqb g 0) (x ∷ inGap 0 ps) (inGap 0 ps))
       go zero x f = refl
       go (suc g) x f = rw (eqb·suc-zero g, f g refl)
 
-  at-lower : (d : Cut) (ps : List (Placed A)) → All (λ p. p .gap ≡ 0 → eq-cut (start (p .item)) d ≡ false) ps
-      → at start d (map (λ p. p .item) ps) ≡ at start d (map (λ p. p .item) (lower ps))
+  at-lower : (d : Cut) (ps : List (Placed A)) → All (λ p. p .gap ≡ 0 → alike cutAtMost (start (p .item)) d ≡ false) ps
+      → at cutAtMost start d (map (λ p. p .item) ps) ≡ at cutAtMost start d (map (λ p. p .item) (lower ps))
   unfolding lower at
   at-lower d [] a = refl
   at-lower d (p ∷ ps) a = rw (at-lower d ps (a .1)) (go (p .gap) (p .item) (a .0))
     where
-      go : (g : ℕ) (x : A) → (g ≡ 0 → eq-cut (start x) d ≡ false)
-          → pick (eq-cut (start x) d) (x ∷ at start d (map (λ p. p .item) (lower ps))) (at start d (map (λ p. p .item) (lower ps)))
-          ≡ at start d (map (λ p. p .item) (lowerTo g x (lower ps)))
+      go : (g : ℕ) (x : A) → (g ≡ 0 → alike cutAtMost (start x) d ≡ false)
+          → pick (alike cutAtMost (start x) d) (x ∷ at cutAtMost start d (map (λ p. p .item) (lower ps))) (at cutAtMost start d (map (λ p. p .item) (lower ps)))
+          ≡ at cutAtMost start d (map (λ p. p .item) (lowerTo g x (lower ps)))
       go zero x f = rw (f refl)
       go (suc g) x f = refl
 
-  none-late : {d e : Cut} (xs : List A) → d ≺ e → All (λ x. e ≼ start x) xs → at start d xs ≡ []
-  none-late {d} xs h a = at-none start d xs (All-map (λ x k. eq-cut-after (≺-≼-trans h k)) xs a)
+  none-late : {d e : Cut} (xs : List A) → d ≺ e → All (λ x. e ≼ start x) xs → at cutAtMost start d xs ≡ []
+  none-late {d} xs h a = at-none cutAtMost start d xs (All-map (λ x k. alike-after (≺-≼-trans h k)) xs a)
 
-  none-early : {d e : Cut} (xs : List A) → e ≼ d → All (λ x. start x ≺ e) xs → at start d xs ≡ []
-  none-early {d} xs h a = at-none start d xs (All-map (λ x k. eq-cut-before (≺-≼-trans k h)) xs a)
+  none-early : {d e : Cut} (xs : List A) → e ≼ d → All (λ x. start x ≺ e) xs → at cutAtMost start d xs ≡ []
+  none-early {d} xs h a = at-none cutAtMost start d xs (All-map (λ x k. alike-before (≺-≼-trans k h)) xs a)
 
 -- ---- the theorem
 module _ {I : Type 0} (from to : I → Cut) where
@@ -186,7 +188,7 @@ module _ {I : Type 0} (from to : I → Cut) where
 
     -- those that start at a cut stand as they did
     at-by : {c : Cut} {is : List I} {outs : List (List A)} (ps : List (Placed A)) → Ascends from to c is → Outs is outs → All (InPlace c is) ps
-        → (d : Cut) → at start d (byGap 0 outs ps) ≡ at start d (map (λ p. p .item) ps) ++ at start d (flatten outs)
+        → (d : Cut) → at cutAtMost start d (byGap 0 outs ps) ≡ at cutAtMost start d (map (λ p. p .item) ps) ++ at cutAtMost start d (flatten outs)
     unfolding byGap flatten at
     at-by ps a no-outs l d =
         sym (at-first start d ps (All-map (λ p k g e. absurd (falls-only g e k)) ps l)) ∙ sym (append-nil _)
@@ -194,16 +196,16 @@ module _ {I : Type 0} (from to : I → Cut) where
         let low = lower-in-place c i is ps l in
         let rest = map (λ p. p .item) (lower ps) in
         let after : All (λ x. to i ≼ start x) rest = items-from (lower ps) a low in
-        rw (at-append start d (inGap 0 ps) (os ++ byGap 1 outs ps), at-append start d os (byGap 1 outs ps), at-append start d os (flatten outs))
+        rw (at-append cutAtMost start d (inGap 0 ps) (os ++ byGap 1 outs ps), at-append cutAtMost start d os (byGap 1 outs ps), at-append cutAtMost start d os (flatten outs))
         (rw (by-lower 0 outs ps, at-by (lower ps) a r low d)
         (elim (order (from i) d) [
           | inr m ↦
               let far : d ≺ to i = ≺-≼-trans m k in
               rw (none-late start os m (All-map (λ x n. n .0) os f), none-late start rest far after, none-late start (flatten outs) far (outs-from a r))
-              (rw (at-first start d ps (All-map (λ p n g e. eq-cut-after (≺-≼-trans far (falls-from from to a (falls-later e n)))) ps l)))
+              (rw (at-first start d ps (All-map (λ p n g e. alike-after (≺-≼-trans far (falls-from from to a (falls-later e n)))) ps l)))
           | inl m ↦
               rw (none-early start (inGap 0 ps) m (All-first start _ ps (All-map (λ p n e. falls-first e n .1) ps l)))
-              (rw (at-lower start d ps (All-map (λ p n e. eq-cut-before (≺-≼-trans (falls-first e n .1) m)) ps l))
+              (rw (at-lower start d ps (All-map (λ p n e. alike-before (≺-≼-trans (falls-first e n .1) m)) ps l))
               (elim (order (to i) d) [
                 | inl n ↦ rw (none-early start os n (All-map (λ x n. n .1) os f))
                 | inr n ↦ rw (none-late start rest n after)
@@ -235,10 +237,10 @@ module _ {I : Type 0} (from to : I → Cut) where
         → Outs is outs
         → All (InPlace c is) ps
         → Pairwise (InStep start) ps
-        → byGap 0 outs ps ≡ sort start (map (λ p. p .item) ps ++ flatten outs)
+        → byGap 0 outs ps ≡ sort cutAtMost start (map (λ p. p .item) ps ++ flatten outs)
     by-gap-is-sort {outs} ps a o l s =
-        sort-unique start (byGap 0 outs ps) (sort start all) (by-sorted ps a o l s) (sort-sorted start all)
-        (λ d. at-by ps a o l d ∙ sym (at-append start d (map (λ p. p .item) ps) (flatten outs)) ∙ sym (sort-stable start d all))
+        sort-unique start (byGap 0 outs ps) (sort cutAtMost start all) (by-sorted ps a o l s) (sort-sorted start all)
+        (λ d. at-by ps a o l d ∙ sym (at-append cutAtMost start d (map (λ p. p .item) ps) (flatten outs)) ∙ sym (sort-stable cut-preorder start d all))
       where
         all : List A
         all = map (λ p. p .item) ps ++ flatten outs

@@ -18,7 +18,6 @@ use Rattle.records.specs.declared.ids.ViewId.{ViewId}
 use Rattle.manifest.specs.Ranges.{effective}
 use Rattle.manifest.specs.Checks.{all, has, tablePasses, ascend, starts, imageChecks}
 use Rattle.incremental_progress.specs.Intervals.{Interval, cutOut}
-use Rattle.incremental_progress.specs.Sort.{insert, sort}
 use Rattle.incremental_progress.specs.Views.{start, sameRange, shown}
 use Rattle.incremental_progress.specs.Ids.{timeLength, timeOf}
 use Rattle.incremental_progress.specs.Entries.{whole, cut}
@@ -28,6 +27,7 @@ use Rattle.incremental_progress.specs.Jobs.{isOutput, others}
 use Rattle.incremental_progress.specs.Checks.{covered, outputViewsCovered}
 use Rattle.incremental_progress.proofs.Commit.{beside}
 use Rattle.base.specs.Lists.{take-again}
+use Rattle.base.specs.Sort.{insert, sort}
 use Rattle.incremental_progress.proofs.Checks.{Checked}
 
 module _ {A : Type 0} {R : A → A → Type 0} where
@@ -67,16 +67,16 @@ fills-retained ivs m v drawn = go (cutOut ivs (effective v ∷ []))
     go [] = no-more
     go (r ∷ rs) = and (fills-piece r drawn) (go rs)
 
-fills-insert : {m v : View} {ms vs : List View} → Fills m v → Each Fills ms vs → Each Fills (insert start m ms) (insert start v vs)
+fills-insert : {m v : View} {ms vs : List View} → Fills m v → Each Fills ms vs → Each Fills (insert cutAtMost start m ms) (insert cutAtMost start v vs)
 unfolding insert
 fills-insert f no-more = and f no-more
 fills-insert {m} {v} f (and {x} {y} {xs} {ys} g a) = rw (fills-start f, fills-start g) (go (cutAtMost (start v) (start y)) (fills-insert f a))
   where
-    go : (b : Bool) → Each Fills (insert start m xs) (insert start v ys) → Each Fills (pick b (m ∷ x ∷ xs) (x ∷ insert start m xs)) (pick b (v ∷ y ∷ ys) (y ∷ insert start v ys))
+    go : (b : Bool) → Each Fills (insert cutAtMost start m xs) (insert cutAtMost start v ys) → Each Fills (pick b (m ∷ x ∷ xs) (x ∷ insert cutAtMost start m xs)) (pick b (v ∷ y ∷ ys) (y ∷ insert cutAtMost start v ys))
     go true h = and f (and g a)
     go false h = and g h
 
-pub fills-sort : {ms vs : List View} → Each Fills ms vs → Each Fills (sort start ms) (sort start vs)
+pub fills-sort : {ms vs : List View} → Each Fills ms vs → Each Fills (sort cutAtMost start ms) (sort cutAtMost start vs)
 unfolding sort
 fills-sort no-more = no-more
 fills-sort (and f a) = fills-insert f (fills-sort a)
@@ -108,8 +108,8 @@ fills-views j n {ms} {vs} a = go (eqb n (j .destination)) (has n (j .sources))
     outs : List View
     outs = flatMap published (j .parts)
 
-    go : (d m : Bool) → Each Fills (pick d (sort start (flatMap (retained ivs) (others (j .parts) ms) ++ outs)) (pick m (flatMap (retained ivs) ms) ms))
-        (pick d (sort start (flatMap (retained ivs) (others (j .parts) vs) ++ outs)) (pick m (flatMap (retained ivs) vs) vs))
+    go : (d m : Bool) → Each Fills (pick d (sort cutAtMost start (flatMap (retained ivs) (others (j .parts) ms) ++ outs)) (pick m (flatMap (retained ivs) ms) ms))
+        (pick d (sort cutAtMost start (flatMap (retained ivs) (others (j .parts) vs) ++ outs)) (pick m (flatMap (retained ivs) vs) vs))
     go true m = fills-sort (Each-append (Each-flatMap (retained ivs) (fills-retained ivs) (fills-others (j .parts) a)) (fills-self outs))
     go false true = Each-flatMap (retained ivs) (fills-retained ivs) a
     go false false = a

@@ -8,6 +8,8 @@ use mathlib.Core.List.{List, [], _∷_, _++_, map, flatMap}
 use lib.Dec.{eqb}
 use lib.ListN.{length}
 use Rattle.base.specs.Pick.{pick}
+use Rattle.base.specs.Sort.{sort}
+use Rattle.comparable_range.specs.Cut.{cutAtMost}
 use Rattle.key.specs.Order.{Key}
 use Rattle.comparable_range.specs.Range.{Range, nonEmpty, overlap}
 use Rattle.records.specs.Values.{Table, View, Run, Image, Part, Job}
@@ -15,7 +17,6 @@ use Rattle.records.specs.declared.ids.ViewId.{ViewId}
 use Rattle.manifest.specs.Ranges.{own, effective}
 use Rattle.manifest.specs.Checks.{has}
 use Rattle.incremental_progress.specs.Intervals.{Interval, listed, toRange, cutOut}
-use Rattle.incremental_progress.specs.Sort.{sort}
 use Rattle.incremental_progress.specs.Ids.{timeOf}
 use Rattle.incremental_progress.specs.Views.{start, sameRange}
 use Rattle.incremental_progress.specs.Parts.{isKey, durable, intervals, identity, openKey}
@@ -48,7 +49,7 @@ cutRun ivs vs = flatMap (retained ivs) vs
 
 -- the destination, which also gets the outputs
 unfoldable pub cutDestination : List Interval → List View → List View → List View
-cutDestination ivs outs vs = sort start (cutRun ivs vs ++ outs)
+cutDestination ivs outs vs = sort cutAtMost start (cutRun ivs vs ++ outs)
 
 -- ---- the outputs
 unfoldable pub publish : Option Key → Interval → Table → List View

@@ -17,7 +17,6 @@ use Rattle.manifest.specs.Ranges.{effective}
 use Rattle.manifest.specs.Checks.{all, has, ascendFrom, ascend, starts, tablePasses, imageChecks}
 use Rattle.manifest.proofs.ViewRanges.{effective-start-is-held}
 use Rattle.incremental_progress.specs.Intervals.{Interval, cutOut}
-use Rattle.incremental_progress.specs.Sort.{sort}
 use Rattle.incremental_progress.specs.Views.{start}
 use Rattle.incremental_progress.specs.Parts.{intervals}
 use Rattle.incremental_progress.specs.Jobs.{others}
@@ -27,6 +26,7 @@ use Rattle.incremental_progress.specs.Entries.{pieceEntry, viewEntries, 
 use Rattle.incremental_progress.specs.Members.{In}
 use Rattle.incremental_progress.specs.OrderAfter.{Accepts, leftStarts, otherSource, leftAscends, OrderAfter, OrderAfterCommit, NoneReaches, next-view, NoneReachesPassesSix}
 use Rattle.base.specs.Lists.{All, All-map, All-both, All-flatMap, All-unmapped, Pairwise, Pairwise-append, Pairwise-map, Pairwise-mapped, Pairwise-unmapped, Pairwise-flatMap, map-flatMap, flatMap-alike}
+use Rattle.base.specs.Sort.{sort}
 use Rattle.incremental_progress.proofs.Sort.{Sorted, sort-sorted}
 use Rattle.incremental_progress.proofs.Span.{Span, keep, until, since, less}
 use Rattle.incremental_progress.proofs.Cutting.{Proper, cutSpans}
@@ -172,14 +172,14 @@ module _ (j : Job) (outs : List View) where
       always false = refl
 
       go : (d m : Bool)
-          → pick d (next (fillAll (runEntries ivs (others (j .parts) vs)) s) (λ ws s. got (sort start (ws ++ outs)) s)) (pick m (fillAll (runEntries ivs vs) s) (got vs s)) ≡ got ws t
+          → pick d (next (fillAll (runEntries ivs (others (j .parts) vs)) s) (λ ws s. got (sort cutAtMost start (ws ++ outs)) s)) (pick m (fillAll (runEntries ivs vs) s) (got vs s)) ≡ got ws t
           → ascend (starts ws) ≡ (not (m && not d) || ascend (leftStarts ivs vs))
       go true m e =
           let h = through (fillAll (runEntries ivs (others (j .parts) vs)) s) _ ws t e in
           let g = h .second in
-          let f : sort start (h .value ++ outs) ≡ ws = cc in
-          rw (← f, always m) (ascending (starts (sort start (h .value ++ outs)))
-          (Pairwise-mapped (λ a c. startCut a ≼ startCut c) (λ v. effective v .start) (sort start (h .value ++ outs)) (sort-sorted start (h .value ++ outs))))
+          let f : sort cutAtMost start (h .value ++ outs) ≡ ws = cc in
+          rw (← f, always m) (ascending (starts (sort cutAtMost start (h .value ++ outs)))
+          (Pairwise-mapped (λ a c. startCut a ≼ startCut c) (λ v. effective v .start) (sort cutAtMost start (h .value ++ outs)) (sort-sorted start (h .value ++ outs))))
       go false true e = rw (filled-starts ivs vs (g .showing) s ws t e)
       go false false e = let f : vs ≡ ws = cc in rw (← f) (g .ordered)
 

@@ -1,46 +1,36 @@
 -- Sorting keeps how many there are, and how many bytes they are written in.
 -- Assumes nothing.
-use Prim.Native.Nat.{ℕ, suc, _+_}
+use Prim.Native.Nat.{ℕ, _+_}
 use native.Mathlib.Omega.{arith}
 use mathlib.Core.Path.{_≡_, refl, sym, _∙_}
 use mathlib.Core.Logic.{inl, inr}
 use mathlib.Core.List.{List, [], _∷_, _++_}
 use lib.ListN.{length, length-append}
-use Rattle.comparable_range.specs.Cut.{Cut}
+use Rattle.base.specs.Sort.{insert, sort}
+use Rattle.base.specs.SortLaws.{length-sort}
+use Rattle.comparable_range.specs.Cut.{Cut, cutAtMost}
 use Rattle.comparable_range.proofs.Cut.{order}
 use Rattle.records.specs.Form.{writeMany}
-use Rattle.incremental_progress.specs.Sort.{insert, sort}
 use Rattle.incremental_progress.proofs.Sort.{insert-first, insert-next}
 
 module _ {A : Type 0} (start : A → Cut) where
-  insert-length : (x : A) (ys : List A) → length (insert start x ys) ≡ suc (length ys)
-  unfolding insert
-  insert-length x [] = refl
-  insert-length x (y ∷ ys) =
-      elim (order (start x) (start y)) [
-        | inl h ↦ rw (insert-first start ys h)
-        | inr h ↦ rw (insert-next start ys h, insert-length x ys)
-      ]
-
-  pub sort-length : (xs : List A) → length (sort start xs) ≡ length xs
-  unfolding sort
-  sort-length [] = refl
-  sort-length (x ∷ xs) = rw (insert-length x (sort start xs), sort-length xs)
+  pub sort-length : (xs : List A) → length (sort cutAtMost start xs) ≡ length xs
+  sort-length xs = length-sort cutAtMost start xs
 
   -- ---- the bytes
   module _ (w : A → List ℕ) where
-    insert-bytes : (x : A) (ys : List A) → length (writeMany w (insert start x ys)) ≡ length (w x) + length (writeMany w ys)
+    insert-bytes : (x : A) (ys : List A) → length (writeMany w (insert cutAtMost start x ys)) ≡ length (w x) + length (writeMany w ys)
     unfolding insert writeMany
     insert-bytes x [] = length-append (w x) []
     insert-bytes x (y ∷ ys) =
         elim (order (start x) (start y)) [
           | inl h ↦ rw (insert-first start ys h) (length-append (w x) (w y ++ writeMany w ys))
           | inr h ↦
-              rw (insert-next start ys h, length-append (w y) (writeMany w (insert start x ys)), length-append (w y) (writeMany w ys), insert-bytes x ys)
+              rw (insert-next start ys h, length-append (w y) (writeMany w (insert cutAtMost start x ys)), length-append (w y) (writeMany w ys), insert-bytes x ys)
               (omega arith)
         ]
 
-    pub sort-bytes : (xs : List A) → length (writeMany w (sort start xs)) ≡ length (writeMany w xs)
+    pub sort-bytes : (xs : List A) → length (writeMany w (sort cutAtMost start xs)) ≡ length (writeMany w xs)
     unfolding sort writeMany
     sort-bytes [] = refl
-    sort-bytes (x ∷ xs) = insert-bytes x (sort start xs) ∙ rw (sort-bytes xs) (sym (length-append (w x) (writeMany w xs)))
+    sort-bytes (x ∷ xs) = insert-bytes x (sort cutAtMost start xs) ∙ rw (sort-bytes xs) (sym (length-append (w x) (writeMany w xs)))

@@ -5,12 +5,12 @@ use mathlib.Core.Bool.{Bool, false, _||_}
 use mathlib.Core.List.{List, [], _∷_, _++_, map, flatMap}
 use lib.Dec.{eqb}
 use Rattle.base.specs.Pick.{pick}
+use Rattle.base.specs.Sort.{sort}
 use Rattle.key.specs.Order.{Key}
-use Rattle.comparable_range.specs.Cut.{Cut}
+use Rattle.comparable_range.specs.Cut.{Cut, cutAtMost}
 use Rattle.records.specs.Values.{Table, View, Image, Part, Job}
 use Rattle.manifest.specs.Checks.{has}
 use Rattle.incremental_progress.specs.Intervals.{anyHolds}
-use Rattle.incremental_progress.specs.Sort.{sort}
 use Rattle.incremental_progress.specs.Ids.{sameTableId}
 use Rattle.incremental_progress.specs.Parts.{intervals, listedIn, LaterParts}
 use Rattle.incremental_progress.specs.Entries.{Entry, whole, entryStart, runEntries, partEntries}
@@ -41,7 +41,7 @@ leftEntries j n vs =
 
 -- the destination also gets the outputs, and is sorted
 unfoldable pub withOutputs : {A : Type 0} → (A → Cut) → Job → ℕ → List A → List A → List A
-withOutputs start j n left outs = pick (eqb n (j .destination)) (sort start (left ++ outs)) left
+withOutputs start j n left outs = pick (eqb n (j .destination)) (sort cutAtMost start (left ++ outs)) left
 
 -- a run of the new image, with drawn ids left open
 pub record OpenRun : Type 0 where

@@ -1,5 +1,4 @@
 pub mod Intervals
-pub mod Sort
 pub mod Ids
 pub mod Views
 pub mod Parts

@@ -17,6 +17,7 @@ use Rattle.records.specs.Layouts.{countOf, viewCountOf, table, run, image, part
 use mathlib.Core.Option.{some}
 use mathlib.Core.List.{List, [], _∷_, flatMap, append-nil}
 use Rattle.base.specs.Outcome.{stop, answer}
+use Rattle.base.specs.Sort.{sort, insert}
 use Rattle.key.specs.Order.{Key, cmpKey, cmpNumber}
 use Rattle.key.specs.Word.{digits}
 use Rattle.comparable_range.specs.Range.{unbounded, included, excluded, cmpBound, boundsPass, startSide, endSide, intersectSides}
@@ -31,7 +32,6 @@ use Rattle.incremental_progress.specs.Parts.{lastWritten, isKey, upToKey, durab
 use Rattle.incremental_progress.specs.Entries.{outputEntries, partEntries, viewEntries, runEntries}
 use Rattle.incremental_progress.specs.Draws.{tens, supply, draw, fillAll, fillViews, fillRuns, fillCommit}
 use Rattle.incremental_progress.specs.Views.{sameRange}
-use Rattle.incremental_progress.specs.Sort.{sort, insert}
 use Rattle.incremental_progress.specs.Commit.{resultFits, drawnImage, jobChecked, applied, committed, commitOutcome}
 
 abbrev pub zeros : ℕ → List ℕ

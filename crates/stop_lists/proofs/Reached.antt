@@ -6,6 +6,7 @@ use mathlib.Core.Bool.{false}
 use mathlib.Core.Option.{none}
 use mathlib.Core.List.{List, [], _∷_, _++_, flatMap}
 use Rattle.base.specs.Outcome.{Outcome, andThen}
+use Rattle.base.specs.Sort.{sort, insert}
 use Rattle.key.specs.Order.{Key, cmpKey, cmpNumber}
 use Rattle.key.specs.Word.{digits}
 use Rattle.comparable_range.specs.Range.{Range, unbounded, included, excluded, cmpBound, boundsPass, startSide, endSide, intersectSides}
@@ -29,7 +30,6 @@ use Rattle.incremental_progress.specs.Parts.{lastWritten, isKey, upToKey, durab
 use Rattle.incremental_progress.specs.Entries.{outputEntries, partEntries, viewEntries, runEntries}
 use Rattle.incremental_progress.specs.Draws.{tens, supply, draw, fillAll, fillViews, fillRuns, fillCommit}
 use Rattle.incremental_progress.specs.Views.{sameRange}
-use Rattle.incremental_progress.specs.Sort.{sort, insert}
 use Rattle.incremental_progress.specs.Commit.{resultFits, drawnImage, jobChecked, applied, committed, commitOutcome}
 use Rattle.view_sizes.specs.SizeCalls.{visibleFractionOutcome, estimateVisibleSizeOutcome, estimateRunVisibleSizeOutcome}
 use Rattle.listing.specs.Listing.{runLines, listing}
