@@ -18,7 +18,7 @@ use Rattle.bilqarush.specs.declared.images.Checked.{Checked}
 use Rattle.bilqarush.specs.declared.images.Checked.the-variants.{Accepted, Stop}
 use Rattle.bilqarush.specs.declared.images.ViewRange.{ViewRange}
 use Rattle.told.specs.Told.{Held, fromTo, slot, sized, counted, SlotTold, Told}
-use Rattle.told.specs.Layouts.{pointTo, joinedTo, viewRangeTo, keyTo, JointTold, ViewRangeTold}
+use Rattle.told_bytes.specs.Layouts.{pointTo, joinedTo, viewRangeTo, keyTo, JointTold, ViewRangeTold}
 
 -- ---- one slot
 pub slot-told : {A : Type 0} {o p : Outcome A} {s : Held A} {r : ℕ} → o ≡ p → SlotTold o s r → SlotTold p s r

@@ -6,7 +6,7 @@ ghost use Rattle.bilqarush.specs.Answers.{stopOf};
 ghost use Rattle.bilqarush.specs.ImageCalls.{checkImageOutcome, listOutcome};
 ghost use Rattle.incremental_progress.specs.Commit.{commitOutcome};
 ghost use Rattle.told.specs.Told.{held, Told};
-ghost use Rattle.told.specs.Layouts.{ViewRangeTold};
+ghost use Rattle.told_bytes.specs.Layouts.{ViewRangeTold};
 
 #[no_mangle]
 pub extern "C" fn bilqarush_check_image(image: &[u8]) -> u8
@@ -29,7 +29,7 @@ pub extern "C" fn bilqarush_compacted_effective_range(
     ensures { λ r. ⌜ ViewRangeTold (now (image .entry)) run view (held out) (held written) r ⌝ }
 {
     let range = bilqarush::compacted_effective_range(image, run, view);
-    told::tell(told::answers::put_view_range(range, out), written)
+    told::tell(told_bytes::put_view_range(range, out), written)
 }
 
 #[no_mangle]

@@ -1,4 +1,5 @@
-// The public calls for C: include/bilqarush.h has their declarations, and the crate `told` how a call tells its answer.
+// The public calls for C: include/bilqarush.h has their declarations, and the crates `told` and `told_bytes` how a call tells its
+// answer.
 mod images;
 mod lookups;
 mod partitions;
@@ -11,7 +12,7 @@ ghost use Rattle.bilqarush.specs.Calls.{intersectOutcome, intersectStartKeyOutc
 ghost use Rattle.bilqarush.specs.Calls.{fromPrefixOutcome, fromPrefixAndSubrangeOutcome};
 ghost use Rattle.bilqarush.specs.Answers.{pointAt};
 ghost use Rattle.told.specs.Told.{held, SlotTold, Told};
-ghost use Rattle.told.specs.Layouts.{pointTo, keyTo, JointTold};
+ghost use Rattle.told_bytes.specs.Layouts.{pointTo, keyTo, JointTold};
 
 #[no_mangle]
 pub extern "C" fn bilqarush_compare(a: &[u8], b: &[u8], order: &mut i8) -> u8
@@ -53,7 +54,7 @@ pub extern "C" fn bilqarush_as_point(range: &[u8], out: &mut [u8], written: &mut
     ensures { λ r. ⌜ Told (pointTo (length (now (out .entry))) (pointAt (asPointOutcome (now (range .entry))))) (held out) (held written) r ⌝ }
 {
     told::tell(
-        told::answers::put_point(bilqarush::as_point(range), out),
+        told_bytes::put_point(bilqarush::as_point(range), out),
         written,
     )
 }
@@ -68,7 +69,7 @@ pub extern "C" fn bilqarush_intersect<'a>(
     ensures { λ r. ⌜ JointTold (now (a .entry)) (now (b .entry)) (intersectOutcome (now (a .entry)) (now (b .entry))) (held out) (held written) r ⌝ }
 {
     told::tell(
-        told::answers::put_joined(bilqarush::intersect(a, b), out),
+        told_bytes::put_joined(bilqarush::intersect(a, b), out),
         written,
     )
 }
@@ -83,7 +84,7 @@ pub extern "C" fn bilqarush_intersect_start_key<'a>(
     ensures { λ r. ⌜ Told (keyTo (length (now (out .entry))) (intersectStartKeyOutcome (now (a .entry)) (now (b .entry)))) (held out) (held written) r ⌝ }
 {
     told::tell(
-        told::answers::put_start_key(a, b, bilqarush::intersect(a, b), out),
+        told_bytes::put_start_key(a, b, bilqarush::intersect(a, b), out),
         written,
     )
 }
@@ -98,7 +99,7 @@ pub extern "C" fn bilqarush_intersect_end_key<'a>(
     ensures { λ r. ⌜ Told (keyTo (length (now (out .entry))) (intersectEndKeyOutcome (now (a .entry)) (now (b .entry)))) (held out) (held written) r ⌝ }
 {
     told::tell(
-        told::answers::put_end_key(a, b, bilqarush::intersect(a, b), out),
+        told_bytes::put_end_key(a, b, bilqarush::intersect(a, b), out),
         written,
     )
 }
@@ -112,10 +113,7 @@ pub extern "C" fn bilqarush_union<'a>(
 ) -> u8
     ensures { λ r. ⌜ JointTold (now (a .entry)) (now (b .entry)) (unionOutcome (now (a .entry)) (now (b .entry))) (held out) (held written) r ⌝ }
 {
-    told::tell(
-        told::answers::put_joined(bilqarush::union(a, b), out),
-        written,
-    )
+    told::tell(told_bytes::put_joined(bilqarush::union(a, b), out), written)
 }
 
 #[no_mangle]

@@ -3,7 +3,7 @@ ghost use mathlib.Core.Path.{_≡_};
 ghost use Rattle.db_state.specs.LookupCalls.{tableIdxCoveringRangeOutcome, overlapsRangeOutcome, compactedIntersectionOutcome, calculateViewRangeOutcome, intersectsRangeOutcome};
 ghost use Rattle.told.specs.Told.{held, SlotTold};
 ghost use Rattle.told.specs.Lookups.{CoveredTold};
-ghost use Rattle.told.specs.Layouts.{JointTold};
+ghost use Rattle.told_bytes.specs.Layouts.{JointTold};
 
 #[no_mangle]
 pub extern "C" fn bilqarush_table_idx_covering_range<'a>(
@@ -46,7 +46,7 @@ pub extern "C" fn bilqarush_compacted_intersection<'a>(
     ensures { λ r. ⌜ JointTold (now (image .entry)) (now (range .entry)) (compactedIntersectionOutcome (now (image .entry)) run view (now (range .entry))) (held out) (held written) r ⌝ }
 {
     let joined = bilqarush::compacted_intersection(image, run, view, range);
-    told::tell(told::answers::put_joined(joined, out), written)
+    told::tell(told_bytes::put_joined(joined, out), written)
 }
 
 #[no_mangle]
@@ -61,7 +61,7 @@ pub extern "C" fn bilqarush_calculate_view_range<'a>(
     ensures { λ r. ⌜ JointTold (now (image .entry)) (now (range .entry)) (calculateViewRangeOutcome (now (image .entry)) run view (now (range .entry))) (held out) (held written) r ⌝ }
 {
     let joined = bilqarush::calculate_view_range(image, run, view, range);
-    told::tell(told::answers::put_joined(joined, out), written)
+    told::tell(told_bytes::put_joined(joined, out), written)
 }
 
 #[no_mangle]

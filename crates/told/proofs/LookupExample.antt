@@ -1,15 +1,13 @@
 -- The examples of lookups in bytes, computed.
 -- Assumes nothing.
 use mathlib.Core.Path.{refl}
-use lib.Dec.{lit≤}
 use Rattle.key.specs.Order.{cmpKey, cmpNumber}
 use Rattle.key.specs.Word.{digits}
-use Rattle.comparable_range.specs.Range.{cmpBound, boundsPass, startHolds, endHolds, holds, startSide, endSide, intersectSides}
-use Rattle.format.specs.Number.{readNumber, writeNumber}
+use Rattle.comparable_range.specs.Range.{cmpBound, boundsPass, startSide, endSide, intersectSides}
+use Rattle.format.specs.Number.{readNumber}
 use Rattle.format.specs.Key.{readBytes, readKey}
 use Rattle.format.specs.Range.{headOf, readBound, readRange}
 use Rattle.format.specs.Whole.{whole, keyGiven}
-use Rattle.format.specs.Joint as joint
 use Rattle.records.specs.Form.{readIf, readMany}
 use Rattle.records.specs.Layouts.{flagOf, countOf, viewCountOf, table, view, run, image, block, index}
 use Rattle.manifest.specs.Ranges.{effective}
@@ -18,10 +16,9 @@ use Rattle.partitioned_keyspace.specs.Partitions.{partitionPoint, startsWith, f
 use Rattle.partitioned_keyspace.specs.Asked.{askedChecks, indexAndKey, indexAndRange}
 use Rattle.partitioned_keyspace.specs.Calls.{partitionPointOutcome, firstPartitionIncludingKeyOutcome, lastPartitionIncludingKeyOutcome, partitionsCoveringRangeOutcome}
 use Rattle.db_state.specs.Places.{at}
-use Rattle.db_state.specs.Lookup.{startKey, compactedIntersection, overlapsRange}
-use Rattle.db_state.specs.LookupCalls.{imageAndRange, overlapsRangeOutcome, compactedIntersectionOutcome}
-use Rattle.told.specs.Layouts.{joinedTo}
-use Rattle.told.specs.LookupExample.{CountIsTold, CountBelowIsTold, PartitionIsTold, NoPartitionIsTold, StopIsTold, PlacesAreTold, TestIsTold, LookupRangeIsFound, LookupRangeIsTold}
+use Rattle.db_state.specs.Lookup.{overlapsRange}
+use Rattle.db_state.specs.LookupCalls.{imageAndRange, overlapsRangeOutcome}
+use Rattle.told.specs.LookupExample.{CountIsTold, CountBelowIsTold, PartitionIsTold, NoPartitionIsTold, StopIsTold, PlacesAreTold, TestIsTold}
 
 -- ---- in an index
 pub count-is-told : CountIsTold
@@ -52,11 +49,3 @@ places-are-told = record { returns = refl; from = refl; to = refl }
 pub test-is-told : TestIsTold
 unfolding cmpKey cmpNumber digits cmpBound boundsPass startSide endSide intersectSides readNumber readBytes readKey headOf readBound readRange whole readIf readMany flagOf countOf viewCountOf table view run image effective all visiblePasses keysInOrder tablePasses ascendFrom has distinct sizePasses imageChecks askedChecks at imageAndRange overlapsRange overlapsRangeOutcome
 test-is-told = record { returns = refl; answered = refl }
-
-pub lookup-range-is-found : LookupRangeIsFound
-unfolding cmpKey cmpNumber digits cmpBound boundsPass startHolds endHolds holds startSide endSide intersectSides readNumber readBytes readKey headOf readBound readRange whole joint.intersect readIf readMany flagOf countOf viewCountOf table view run image effective all visiblePasses keysInOrder tablePasses ascendFrom has distinct sizePasses imageChecks askedChecks at imageAndRange startKey compactedIntersection compactedIntersectionOutcome
-lookup-range-is-found = record { meaning = refl; inside = (lit≤ tt, lit≤ tt) }
-
-pub lookup-range-is-told : LookupRangeIsTold
-unfolding writeNumber joinedTo
-lookup-range-is-told = refl

@@ -1,5 +1,6 @@
 -- Demand 1, as the calls for C keep it: every buffer and every slot lent to a call holds, after a refusal, what it held before,
--- and after success differs only where the answer stands. Their proofs are in proofs/Laws.antt.
+-- and after success differs only where the answer stands. Of answers with places, specs/Laws.antt of `told_bytes` says the first.
+-- Their proofs are in proofs/Laws.antt.
 use Prim.Native.Nat.{ℕ}
 use mathlib.Core.Path.{_≡_}
 use mathlib.Core.Bool.{Bool, true, false}
@@ -8,10 +9,8 @@ use mathlib.Core.List.{List, _++_}
 use lib.ListN.{length, drop}
 use Rattle.base.specs.Outcome.{stop, answer}
 use Rattle.partitioned_keyspace.specs.Partitions.{Places}
-use Rattle.bilqarush.specs.ImageCalls.{compactedEffectiveRangeOutcome}
 use Rattle.told.specs.Told.{Held, SlotTold, Told, OptionTold}
 use Rattle.told.specs.Lookups.{CoveredTold}
-use Rattle.told.specs.Layouts.{JointTold, ViewRangeTold}
 
 -- as it was
 abbrev pub Kept : {A : Type 0} → Held A → Type 0
@@ -34,20 +33,6 @@ abbrev pub RefusalKeepsTheBuffer : Type 0
 RefusalKeepsTheBuffer =
     (n : ℕ) (out : Held (List ℕ)) (written : Held ℕ) (r : ℕ)
     → Told (stop n) out written r
-    → (r ≡ n) × (Kept out × Kept written)
-
--- of a range whose bounds stand in the slices that were lent
-abbrev pub RefusedRangeKeepsTheBuffer : Type 0
-RefusedRangeKeepsTheBuffer =
-    (a b : List ℕ) (n : ℕ) (out : Held (List ℕ)) (written : Held ℕ) (r : ℕ)
-    → JointTold a b (stop n) out written r
-    → (r ≡ n) × (Kept out × Kept written)
-
-abbrev pub RefusedViewKeepsTheBuffer : Type 0
-RefusedViewKeepsTheBuffer =
-    (image : List ℕ) (run view n : ℕ) (out : Held (List ℕ)) (written : Held ℕ) (r : ℕ)
-    → compactedEffectiveRangeOutcome image run view ≡ stop n
-    → ViewRangeTold image run view out written r
     → (r ≡ n) × (Kept out × Kept written)
 
 -- ---- after success

@@ -1,21 +1,13 @@
--- Each answer of a lookup, once in bytes, as a call for C tells it: of an index with the first keys b and d, and of document
--- 01's image. Every slot holds 7 before, or says true.
+-- Each answer of a lookup that stands in slots, once, as a call for C tells it: of an index with the first keys b and d, and of
+-- document 01's image. Every slot holds 7 before, or says true.
 use Prim.Native.Nat.{ℕ}
-use mathlib.Core.Path.{_≡_}
 use mathlib.Core.Bool.{true, false}
 use mathlib.Core.List.{List, [], _∷_}
-use Rattle.base.specs.Outcome.{answer}
-use Rattle.comparable_range.specs.declared.Kind.the-variants.{Included, Excluded}
-use Rattle.comparable_range.specs.declared.Side.the-variants.{First, Second}
-use Rattle.format.specs.Span.{JointFound}
-use Rattle.format.specs.declared.span.Joined.{Joined}
-use Rattle.format.specs.declared.span.Joined.the-variants.{Range}
 use Rattle.partitioned_keyspace.specs.Calls.{partitionPointOutcome, firstPartitionIncludingKeyOutcome, lastPartitionIncludingKeyOutcome, partitionsCoveringRangeOutcome}
-use Rattle.db_state.specs.LookupCalls.{overlapsRangeOutcome, compactedIntersectionOutcome}
+use Rattle.db_state.specs.LookupCalls.{overlapsRangeOutcome}
 use Rattle.bilqarush.specs.Example.{exampleImage}
 use Rattle.told.specs.Told.{fromTo, SlotTold, OptionTold}
 use Rattle.told.specs.Lookups.{testGiven, CoveredTold}
-use Rattle.told.specs.Layouts.{joinedTo}
 
 -- ---- an index: two blocks, each an offset of 8 bytes and a key
 abbrev pub bAndD : List ℕ
@@ -50,22 +42,3 @@ PlacesAreTold = CoveredTold (partitionsCoveringRangeOutcome bAndD fromC) (fromTo
 -- ---- document 01's image
 abbrev pub TestIsTold : Type 0
 TestIsTold = SlotTold (overlapsRangeOutcome exampleImage 0 (16 ∷ 0 ∷ 1 ∷ 65 ∷ [])) (fromTo true false) 0
-
--- its first view from b up to the second view, [b,d): the asked range supplies the start, the image the end
-abbrev pub fromB : List ℕ
-fromB = 64 ∷ 0 ∷ 1 ∷ 98 ∷ []
-
-abbrev pub bToD : Joined
-bToD =
-    Range
-    (record { side = Second; bound = record { kind = Included; at = 3; len = 1 } })
-    (record { side = First; bound = record { kind = Excluded; at = 130; len = 1 } })
-
-abbrev pub LookupRangeIsFound : Type 0
-LookupRangeIsFound = JointFound exampleImage fromB (compactedIntersectionOutcome exampleImage 0 0 fromB) bToD
-
-abbrev pub LookupRangeIsTold : Type 0
-LookupRangeIsTold =
-    joinedTo 37 bToD
-    ≡ answer (1 ∷ 1 ∷ 2 ∷ 0 ∷ 0 ∷ 0 ∷ 0 ∷ 0 ∷ 0 ∷ 0 ∷ 3 ∷ 0 ∷ 0 ∷ 0 ∷ 0 ∷ 0 ∷ 0 ∷ 0 ∷ 1
-    ∷ 2 ∷ 1 ∷ 0 ∷ 0 ∷ 0 ∷ 0 ∷ 0 ∷ 0 ∷ 0 ∷ 130 ∷ 0 ∷ 0 ∷ 0 ∷ 0 ∷ 0 ∷ 0 ∷ 0 ∷ 1 ∷ [])

@@ -1,7 +1,6 @@
 // How a call for C tells its answer: the number of the stop is returned, or 0; a number that it answers stands in a slot of the
-// caller's, bytes stand at the front of a lent buffer. A stop leaves slots and buffers as they were.
-pub mod answers;
-
+// caller's, bytes stand at the front of a lent buffer. A stop leaves slots and buffers as they were. The crate `told_bytes` puts
+// the bytes of an answer with places.
 use base::Written;
 use bilqarush::Compared;
 use bilqarush::Counted;

@@ -1,0 +1,3 @@
+pub mod PutExits
+pub mod Laws
+pub mod Example
