@@ -1,6 +1,6 @@
 /*
- * Bilqarush: ranges of byte keys, images of runs, lookups in them and in indexes, visible sizes, and the commit of a
- * compaction, after slatedb 0.18.0.
+ * Bilqarush: ranges of byte keys, images of runs, lookups in them and in indexes, visible sizes, and the plan and the commit
+ * of a compaction, after slatedb 0.18.0.
  *
  * Link libbilqarush_c.a, which `rt staticlib bilqarush_c` writes to target/staticlib, for x86-64 Linux. Of the C library it
  * needs memcpy and memset alone. What each call answers is proved for every input; docs/PROMISES.md names the definitions.
@@ -59,6 +59,8 @@
  *   job     destination 32, source count 8, source ids 32 each, part count 8; each part: range, completed flag 1, output
  *           count 15, tables
  *   index   block count 16; each block: offset 64, first key
+ *   anchors count 16; each anchor: key, bytes 64
+ *   plan    count 8; ranges
  *
  * Kinds are 0 unbounded, 1 included, 2 excluded. Ids have 48 bits of time and 80 random bits.
  *
@@ -81,8 +83,9 @@
 #define BILQARUSH_MAX_RUNS 64
 #define BILQARUSH_MAX_VIEWS 1024 /* of a run */
 #define BILQARUSH_MAX_SOURCES 64
-#define BILQARUSH_MAX_PARTS 64
+#define BILQARUSH_MAX_PARTS 64     /* of a job, and those that a plan is asked for */
 #define BILQARUSH_MAX_OUTPUTS 1024 /* of a part */
+#define BILQARUSH_MAX_ANCHORS 4096 /* given, sampled from all tables, and asked of a table */
 
 /* Kinds of a bound. */
 #define BILQARUSH_UNBOUNDED 0
@@ -101,6 +104,8 @@
 #define BILQARUSH_RANGE_LEN 2053     /* from_prefix, from_prefix_and_subrange */
 #define BILQARUSH_LISTING_LEN 131097 /* list; 25 + 2 * image_len is enough too */
 #define BILQARUSH_IMAGE_LEN 65536    /* commit */
+#define BILQARUSH_ANCHORS_LEN 65536  /* sample_anchors; index_len is enough too */
+#define BILQARUSH_PLAN_LEN 129341    /* select_boundaries, plan_subcompaction_ranges */
 
 #ifdef __cplusplus
 extern "C" {
@@ -381,6 +386,47 @@ uint8_t bilqarush_estimate_visible_size(const uint8_t *image, size_t image_len, 
  * Stops: as bilqarush_check_image; 9.
  */
 uint8_t bilqarush_estimate_run_visible_size(const uint8_t *image, size_t image_len, size_t run, uint64_t *size);
+
+/* ---- Plan ---- */
+
+/*
+ * The anchors of a table whose index is given and whose data end at an offset: keys, each with the bytes that it stands
+ * for. The blocks go in groups of one size, the last maybe shorter: of as few blocks as make at most `most` groups. A
+ * group's anchor has its first block's first key, and the bytes from that block's offset to the next group's, of the last
+ * group to data_end; none where the later offset is the lesser. The anchors whose key the range holds are answered. `most`
+ * is 0 to 4,096, and 0 acts as 1; data_end has no ceiling.
+ * Writes an anchors image.
+ * Stops: 3 if most is over 4,096; the fields of index (1 and 3 alone), then of range; 4; 6; 16.
+ */
+uint8_t bilqarush_sample_anchors(size_t most, uint64_t data_end, const uint8_t *index, size_t index_len,
+                                 const uint8_t *range, size_t range_len, uint8_t *out, size_t out_len, size_t *written);
+
+/*
+ * Ranges that hold each key exactly once, at most `parts` of them, that carry about equal shares of the anchors' bytes.
+ * The target is the total of the bytes divided by `parts`, rounded down, or `least` if that is greater. If parts is 1, the
+ * target is 0 or the target is the total or above, there is one range, unbounded on both sides. Else the anchors are gone
+ * through in the order of their keys, those of equal keys as they are given. An anchor's key is a boundary once the bytes
+ * of those before it reach the target times one more than the boundaries so far, if it exceeds the smallest anchor key and
+ * the boundary before it and there are fewer than parts - 1 yet. Each range but the last ends excluded at a boundary,
+ * where the next starts included. `parts` is 0 to 64, and 0 acts as 1; least has no ceiling.
+ * Writes a plan.
+ * Stops: 3 if parts is over 64; the fields of anchors (1 and 3 alone); 7; 16.
+ */
+uint8_t bilqarush_select_boundaries(size_t parts, uint64_t least, const uint8_t *anchors, size_t anchors_len,
+                                    uint8_t *out, size_t out_len, size_t *written);
+
+/*
+ * The ranges in which the views of an image are compacted: those of bilqarush_select_boundaries for the anchors of all
+ * views, with the largest raw size (index_offset + index_len) as `least`. `indexes` has one index for each view, in image
+ * order, laid end to end. Of a view's table 128 anchors at most are sampled, as in bilqarush_sample_anchors: the data end
+ * at its filter_offset, and the range is the view's effective range. `parts` is 0 to 64, and 0 acts as 1.
+ * Writes a plan.
+ * Stops: 3 if parts is over 64; the fields of image, then of indexes (1 and 3 alone); 4; 5; 6, of the image or within one
+ * index; 7, of a raw size or of the total of the sampled anchors; 15 if over 4,096 anchors are sampled; 16.
+ */
+uint8_t bilqarush_plan_subcompaction_ranges(size_t parts, const uint8_t *image, size_t image_len,
+                                            const uint8_t *indexes, size_t indexes_len, uint8_t *out, size_t out_len,
+                                            size_t *written);
 
 #ifdef __cplusplus
 }

@@ -9,6 +9,7 @@ mod jobs;
 mod keys;
 mod lookups;
 mod ours;
+mod plans;
 mod ranges;
 mod shapes;
 mod sizes;
@@ -42,7 +43,7 @@ fn main() {
         if cfg!(debug_assertions) { "on" } else { "off" },
     );
     let passes = (0..PASSES).map(|_| measured(&clock));
-    let [mut rows, mut images, commits, lookups, against, sizes] =
+    let [mut rows, mut images, commits, lookups, against, sizes, samples, plans] =
         passes.reduce(least).expect("there is a pass");
 
     table::print("Keys and ranges", &["Rust, keys lent"], &rows);
@@ -56,16 +57,20 @@ fn main() {
         &against,
     );
     table::print("Visible sizes", &["decode", "call"], &sizes);
+    table::print("Samples", &["decode", "call", "encode"], &samples);
+    table::print("Plans", &["decode", "call", "encode"], &plans);
     images.extend(commits);
     table::print_by_size(&images, &shapes::SIZES);
     rows.extend(images);
     rows.extend(lookups);
     rows.extend(sizes);
+    rows.extend(samples);
+    rows.extend(plans);
     table::print_above(&rows);
 }
 
 /// The rows of each table.
-type Rows = [Vec<Row>; 6];
+type Rows = [Vec<Row>; 8];
 
 fn measured(clock: &Clock) -> Rows {
     [
@@ -75,6 +80,8 @@ fn measured(clock: &Clock) -> Rows {
         lookups::rows(clock),
         lookups::against_images(clock),
         sizes::rows(clock),
+        plans::samples(clock),
+        plans::plans(clock),
     ]
 }
 

@@ -327,3 +327,70 @@ pub fn estimate_run_visible_size(image: &[u8], run: usize) -> Checked<u64> {
         unsafe { bilqarush_estimate_run_visible_size(image.as_ptr(), image.len(), run, &mut size) };
     answered(stop, size)
 }
+
+pub fn sample_anchors(
+    most: usize,
+    data_end: u64,
+    index: &[u8],
+    range: &[u8],
+    out: &mut [u8],
+) -> Checked<usize> {
+    let mut written = 0;
+    let stop = unsafe {
+        bilqarush_sample_anchors(
+            most,
+            data_end,
+            index.as_ptr(),
+            index.len(),
+            range.as_ptr(),
+            range.len(),
+            out.as_mut_ptr(),
+            out.len(),
+            &mut written,
+        )
+    };
+    answered(stop, written)
+}
+
+pub fn select_boundaries(
+    parts: usize,
+    least: u64,
+    anchors: &[u8],
+    out: &mut [u8],
+) -> Checked<usize> {
+    let mut written = 0;
+    let stop = unsafe {
+        bilqarush_select_boundaries(
+            parts,
+            least,
+            anchors.as_ptr(),
+            anchors.len(),
+            out.as_mut_ptr(),
+            out.len(),
+            &mut written,
+        )
+    };
+    answered(stop, written)
+}
+
+pub fn plan_subcompaction_ranges(
+    parts: usize,
+    image: &[u8],
+    indexes: &[u8],
+    out: &mut [u8],
+) -> Checked<usize> {
+    let mut written = 0;
+    let stop = unsafe {
+        bilqarush_plan_subcompaction_ranges(
+            parts,
+            image.as_ptr(),
+            image.len(),
+            indexes.as_ptr(),
+            indexes.len(),
+            out.as_mut_ptr(),
+            out.len(),
+            &mut written,
+        )
+    };
+    answered(stop, written)
+}

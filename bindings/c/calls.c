@@ -255,6 +255,56 @@ static void visible_sizes(void) {
     CHECK(bilqarush_estimate_run_visible_size(BYTES(HALF_SHOWN), 0, &size) == 0 && size == 3);
 }
 
+/* Blocks from a, b and c at 0, 10 and 30; the anchors a and b of 10 bytes each, and such that total 2^64. */
+#define PLACED(offset, first) "\0\0\0\0\0\0\0" offset "\0\x01" first
+#define THREE_BLOCKS "\0\x03" PLACED("\0", "a") PLACED("\x0A", "b") PLACED("\x1E", "c")
+#define ANCHOR(key, bytes) "\0\x01" key "\0\0\0\0\0\0\0" bytes
+#define TWO_ANCHORS "\0\x02" ANCHOR("a", "\x0A") ANCHOR("b", "\x0A")
+#define OVER "\0\x02" "\0\x01" "a" "\xFF\xFF\xFF\xFF\xFF\xFF\xFF\xFF" ANCHOR("b", "\x01")
+#define EVERYTHING "\0"
+
+static void samples(void) {
+    fill();
+    CHECK(wrote(bilqarush_sample_anchors(3, 50, BYTES(THREE_BLOCKS), BYTES(AFTER_C), out, ROOM, &written), BYTES("\0\0")));
+    fill();
+    CHECK(wrote(bilqarush_sample_anchors(2, 50, BYTES(THREE_BLOCKS), BYTES(EVERYTHING), out, 24, &written),
+                BYTES("\0\x02" ANCHOR("a", "\x1E") ANCHOR("c", "\x14"))));
+    fill();
+    CHECK(stopped(bilqarush_sample_anchors(2, 50, BYTES(THREE_BLOCKS), BYTES(EVERYTHING), out, 23, &written), 16));
+    CHECK(stopped(bilqarush_sample_anchors(2, 50, BYTES(THREE_BLOCKS), BYTES(PADDED), out, ROOM, &written), 2));
+    CHECK(stopped(bilqarush_sample_anchors(BILQARUSH_MAX_ANCHORS + 1, 50, BYTES(""), BYTES(""), out, ROOM, &written), 3));
+    CHECK(stopped(bilqarush_sample_anchors(2, 50, BYTES(DESCENDS), BYTES(EVERYTHING), out, ROOM, &written), 6));
+}
+
+static void plans(void) {
+    fill();
+    CHECK(wrote(bilqarush_select_boundaries(2, 0, BYTES(TWO_ANCHORS), out, 9, &written),
+                BYTES("\x02\x20\0\x01" "b" "\x40\0\x01" "b")));
+    fill();
+    CHECK(wrote(bilqarush_select_boundaries(2, 20, BYTES(TWO_ANCHORS), out, ROOM, &written), BYTES("\x01\0")));
+    fill();
+    CHECK(stopped(bilqarush_select_boundaries(2, 0, BYTES(TWO_ANCHORS), out, 8, &written), 16));
+    CHECK(stopped(bilqarush_select_boundaries(1, 0, BYTES(OVER), out, ROOM, &written), 7));
+    CHECK(stopped(bilqarush_select_boundaries(BILQARUSH_MAX_PARTS + 1, 0, BYTES(""), out, ROOM, &written), 3));
+}
+
+/* The data of the example's tables end at 0, so that c has no bytes; table 2 has no blocks. */
+static void plans_of_images(void) {
+    static uint8_t room[BILQARUSH_PLAN_LEN];
+    fill();
+    CHECK(wrote(bilqarush_plan_subcompaction_ranges(2, BYTES(EXAMPLE), BYTES(THREE_BLOCKS NO_BLOCKS), out, ROOM, &written),
+                BYTES("\x02\x20\0\x01" "c" "\x40\0\x01" "c")));
+    fill();
+    CHECK(wrote(bilqarush_plan_subcompaction_ranges(1, BYTES(EXAMPLE), BYTES(THREE_BLOCKS NO_BLOCKS), out, 2, &written),
+                BYTES("\x01\0")));
+    fill();
+    CHECK(stopped(bilqarush_plan_subcompaction_ranges(1, BYTES(EXAMPLE), BYTES(THREE_BLOCKS), out, ROOM, &written), 1));
+    CHECK(stopped(bilqarush_plan_subcompaction_ranges(1, BYTES(EXAMPLE), BYTES(NO_BLOCKS DESCENDS), out, ROOM, &written), 6));
+    CHECK(stopped(bilqarush_plan_subcompaction_ranges(65, BYTES(""), BYTES(""), out, ROOM, &written), 3));
+    CHECK(bilqarush_plan_subcompaction_ranges(64, BYTES("\0"), BYTES(""), room, sizeof room, &written) == 0);
+    CHECK(written == 2 && room[0] == 1 && room[1] == 0);
+}
+
 int main(void) {
     keys_and_bounds();
     tests_of_ranges();
@@ -271,6 +321,9 @@ int main(void) {
     ranges_of_views();
     fractions();
     visible_sizes();
+    samples();
+    plans();
+    plans_of_images();
     if (failures == 0) {
         printf("bindings/c/calls: each call answered as expected\n");
     }

@@ -8,6 +8,7 @@ mod decode;
 mod encode;
 mod images;
 mod lookups;
+mod plans;
 mod ranges;
 
 pub mod borrowed;
@@ -15,6 +16,9 @@ pub mod borrowed;
 pub use commits::{commit, Committed, Given};
 pub use images::{check_image, compacted_effective_range, list, Listed};
 pub use lookups::{Index, Runs};
+pub use plans::{
+    plan_subcompaction_ranges, sample_anchors, select_boundaries, Anchors, Plan, Sampling, Sources,
+};
 pub use ranges::{
     as_point, cmp_bound, compare, contains, from_prefix, from_prefix_and_subrange, intersect,
     intersect_end_key, intersect_start_key, non_empty, union,

@@ -1,5 +1,5 @@
-//! Bilqarush: ranges of byte keys, images of runs, lookups in them and in indexes, visible sizes, and the commit of a
-//! compaction, after slatedb 0.18.0.
+//! Bilqarush: ranges of byte keys, images of runs, lookups in them and in indexes, visible sizes, and the plan and the commit
+//! of a compaction, after slatedb 0.18.0.
 //!
 //! A safe function for each call of `libbilqarush_c.a`, which is written in Rattle and proved: what each answers, for
 //! every input, is stated in `docs/PROMISES.md` of the repository. A call takes any bytes. It answers, or refuses with a
@@ -20,8 +20,8 @@
 //!
 //! # Arguments
 //!
-//! A key or a prefix is its bare bytes. A range is a range image, which [`range_image`] makes. Images, jobs and indexes are
-//! laid out as `include/bilqarush.h` says.
+//! A key or a prefix is its bare bytes. A range is a range image, which [`range_image`] makes. Images, jobs, indexes, anchors
+//! and plans are laid out as `include/bilqarush.h` says.
 //!
 //! ```
 //! use bilqarush::{contains, from_prefix, RANGE_LEN};
@@ -37,6 +37,7 @@
 mod answer;
 mod images;
 mod lookups;
+mod plans;
 mod ranges;
 pub mod raw;
 mod sizes;
@@ -48,6 +49,7 @@ pub use lookups::{
     first_partition_including_or_after_key, intersects_range, last_partition_including_key,
     overlaps_range, partition_point, partitions_covering_range, table_idx_covering_range, Test,
 };
+pub use plans::{plan_subcompaction_ranges, sample_anchors, select_boundaries};
 pub use ranges::{
     as_point, cmp_bound, compare, contains, from_prefix, from_prefix_and_subrange, intersect,
     intersect_end_key, intersect_start_key, non_empty, range_image, union, Bounds, Joined, Range,
@@ -66,3 +68,7 @@ pub const RANGE_LEN: usize = raw::BILQARUSH_RANGE_LEN;
 pub const LISTING_LEN: usize = raw::BILQARUSH_LISTING_LEN;
 /// The longest image that [`commit`] writes.
 pub const IMAGE_LEN: usize = raw::BILQARUSH_IMAGE_LEN;
+/// No anchors that [`sample_anchors`] writes are longer.
+pub const ANCHORS_LEN: usize = raw::BILQARUSH_ANCHORS_LEN;
+/// The longest plan that [`select_boundaries`] and [`plan_subcompaction_ranges`] write.
+pub const PLAN_LEN: usize = raw::BILQARUSH_PLAN_LEN;

@@ -14,10 +14,12 @@ pub const BILQARUSH_MAX_RUNS: usize = 64;
 pub const BILQARUSH_MAX_VIEWS: usize = 1024;
 /// The ceiling of a job's sources.
 pub const BILQARUSH_MAX_SOURCES: usize = 64;
-/// The ceiling of a job's parts.
+/// The ceiling of a job's parts, and of those that a plan is asked for.
 pub const BILQARUSH_MAX_PARTS: usize = 64;
 /// The ceiling of a part's outputs.
 pub const BILQARUSH_MAX_OUTPUTS: usize = 1024;
+/// The ceiling of anchors: given, sampled from all tables, and asked of a table.
+pub const BILQARUSH_MAX_ANCHORS: usize = 4096;
 
 /// The kind of an unbounded bound.
 pub const BILQARUSH_UNBOUNDED: u8 = 0;
@@ -45,6 +47,10 @@ pub const BILQARUSH_RANGE_LEN: usize = 2053;
 pub const BILQARUSH_LISTING_LEN: usize = 131097;
 /// The longest answer of `commit`.
 pub const BILQARUSH_IMAGE_LEN: usize = 65536;
+/// No answer of `sample_anchors` is longer.
+pub const BILQARUSH_ANCHORS_LEN: usize = 65536;
+/// The longest answer of `select_boundaries` and `plan_subcompaction_ranges`.
+pub const BILQARUSH_PLAN_LEN: usize = 129341;
 
 unsafe extern "C" {
     /// The order of two keys.
@@ -324,5 +330,41 @@ unsafe extern "C" {
         image_len: usize,
         run: usize,
         size: *mut u64,
+    ) -> u8;
+
+    /// The anchors of a table.
+    pub fn bilqarush_sample_anchors(
+        most: usize,
+        data_end: u64,
+        index: *const u8,
+        index_len: usize,
+        range: *const u8,
+        range_len: usize,
+        out: *mut u8,
+        out_len: usize,
+        written: *mut usize,
+    ) -> u8;
+
+    /// The ranges that anchors are planned into.
+    pub fn bilqarush_select_boundaries(
+        parts: usize,
+        least: u64,
+        anchors: *const u8,
+        anchors_len: usize,
+        out: *mut u8,
+        out_len: usize,
+        written: *mut usize,
+    ) -> u8;
+
+    /// The ranges in which the views of an image are compacted.
+    pub fn bilqarush_plan_subcompaction_ranges(
+        parts: usize,
+        image: *const u8,
+        image_len: usize,
+        indexes: *const u8,
+        indexes_len: usize,
+        out: *mut u8,
+        out_len: usize,
+        written: *mut usize,
     ) -> u8;
 }

@@ -3,8 +3,8 @@ mod common;
 
 use bilqarush::raw::*;
 use common::{
-    cut_view, example, excluded, image, included, index, range, run, sized_table, whole_view,
-    UNWRITTEN,
+    anchors, cut_view, example, excluded, image, included, index, plan, range, run, sized_table,
+    whole_view, UNWRITTEN,
 };
 use std::ops::Bound::Unbounded;
 
@@ -405,4 +405,60 @@ fn slots_of_sizes_stay_after_a_stop() {
     assert_eq!(sizes(&half, 0), ([0; 2], [3; 2]));
     assert_eq!(sizes(&half, 1), ([9; 2], [77; 2]));
     assert_eq!(sizes(b"", 0), ([1; 2], [77; 2]));
+}
+
+fn sample_anchors(most: usize, index: &[u8], range: &[u8], room: usize) -> (u8, Vec<u8>) {
+    told(room, |to, room, written| unsafe {
+        let (asked, length) = (range.as_ptr(), range.len());
+        let (at, size) = (index.as_ptr(), index.len());
+        bilqarush_sample_anchors(most, 9000, at, size, asked, length, to, room, written)
+    })
+}
+
+fn select_boundaries(parts: usize, least: u64, anchors: &[u8], room: usize) -> (u8, Vec<u8>) {
+    told(room, |to, room, written| unsafe {
+        let (at, length) = (anchors.as_ptr(), anchors.len());
+        bilqarush_select_boundaries(parts, least, at, length, to, room, written)
+    })
+}
+
+fn plan_ranges(parts: usize, image: &[u8], indexes: &[u8], room: usize) -> (u8, Vec<u8>) {
+    told(room, |to, room, written| unsafe {
+        let (at, length) = (indexes.as_ptr(), indexes.len());
+        let (of, size) = (image.as_ptr(), image.len());
+        bilqarush_plan_subcompaction_ranges(parts, of, size, at, length, to, room, written)
+    })
+}
+
+#[test]
+fn anchors_byte_by_byte() {
+    let (whole, blocks) = (range(Unbounded, Unbounded), index(&["a", "b"]));
+    let answer = anchors(&[("a", 4096), ("b", 4904)]);
+    assert_eq!(sample_anchors(2, &blocks, &whole, 24), (0, answer.clone()));
+    assert_eq!(sample_anchors(4096, &blocks, &whole, 99), (0, answer));
+    assert_eq!(sample_anchors(2, &blocks, &whole, 23), (16, vec![]));
+    assert_eq!(sample_anchors(4097, &blocks, &whole, 99), (3, vec![]));
+    assert_eq!(sample_anchors(2, &blocks, &[], 99), (1, vec![]));
+}
+
+#[test]
+fn plans_byte_by_byte() {
+    let two = anchors(&[("b", 10), ("a", 10)]);
+    let answer = plan(&["b"]);
+    assert_eq!(select_boundaries(2, 0, &two, 9), (0, answer.clone()));
+    assert_eq!(select_boundaries(2, 0, &two, 99), (0, answer));
+    assert_eq!(select_boundaries(2, 0, &two, 8), (16, vec![]));
+    assert_eq!(select_boundaries(2, 20, &two, 2), (0, vec![1, 0]));
+    assert_eq!(select_boundaries(65, 0, &two, 99), (3, vec![]));
+    assert_eq!(select_boundaries(2, 0, &two[1..], 99), (1, vec![]));
+    let over = anchors(&[("b", u64::MAX), ("a", 1)]);
+    assert_eq!(select_boundaries(1, 0, &over, 0), (7, vec![]));
+    let indexes = [index(&["a", "b", "c"]), index(&["d", "e"])].concat();
+    assert_eq!(plan_ranges(2, &example(), &indexes, 99), (0, plan(&["c"])));
+    assert_eq!(plan_ranges(2, &example(), &indexes, 9), (0, plan(&["c"])));
+    assert_eq!(plan_ranges(2, &example(), &indexes, 8), (16, vec![]));
+    assert_eq!(plan_ranges(2, &example(), &indexes[1..], 99), (1, vec![]));
+    assert_eq!(plan_ranges(65, &example(), &indexes, 99), (3, vec![]));
+    assert_eq!(plan_ranges(64, &[0], &[], 2), (0, vec![1, 0]));
+    assert_eq!(plan_ranges(64, &[0], &[0], 2), (1, vec![]));
 }

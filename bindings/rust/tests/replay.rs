@@ -1,5 +1,5 @@
-//! The recorded answers that the programs replay_ranges, replay_images, replay_commits and replay_lookups replay in Rattle,
-//! replayed through the C interface. oracle/README.md has the layouts of the records.
+//! The recorded answers that the programs replay_ranges, replay_images, replay_commits, replay_lookups and replay_plans replay
+//! in Rattle, replayed through the C interface. oracle/README.md has the layouts of the records.
 mod common;
 
 use bilqarush::*;
@@ -434,4 +434,47 @@ fn lookups() {
         }
     }
     assert_eq!(called, 7334);
+}
+
+// ---- plans
+
+fn plan_record(record: &Record, room: usize, [first, second, _]: &[Vec<u8>; 3]) -> Vec<u8> {
+    let (setting, other) = (record.x, record.y as u64);
+    recorded(lend(room, |out| match record.call {
+        1 => sample_anchors(setting, other, first, second, out),
+        2 => select_boundaries(setting, other, first, out),
+        3 => plan_subcompaction_ranges(setting, first, second, out),
+        call => panic!("call {call}"),
+    }))
+}
+
+#[test]
+fn plans() {
+    let records = records("replay_plans");
+    let mut rest = &records[..];
+    // What is read first and second, and the answer.
+    let mut buffers = [const { Vec::new() }; 3];
+    let mut called = 0;
+    while !rest.is_empty() {
+        let record = next(&mut rest);
+        match record.call {
+            4..=6 => put(&mut buffers[record.call - 4], &record),
+            7..=9 => repeat(&mut buffers[record.call - 7], &record),
+            call => {
+                let mut bytes = record.bytes;
+                let room = number(&mut bytes, 8);
+                assert!(bytes.is_empty());
+                let made = plan_record(&record, room, &buffers);
+                let [first, second, answer] = &buffers;
+                assert!(
+                    made == *answer,
+                    "call {call}, {}, {}, room {room}, {first:x?}, {second:x?}",
+                    record.x,
+                    record.y
+                );
+                called += 1;
+            }
+        }
+    }
+    assert_eq!(called, 5702);
 }

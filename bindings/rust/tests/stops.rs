@@ -44,7 +44,7 @@ fn a_stop_is_an_error() {
 }
 
 #[test]
-fn no_bytes_are_stop_1_of_each_lookup_and_size() {
+fn no_bytes_are_stop_1_of_each_lookup_size_and_plan() {
     let nothing = b"";
     let stops = [
         partition_point(nothing, Test::Below, b"a").unwrap_err(),
@@ -60,6 +60,9 @@ fn no_bytes_are_stop_1_of_each_lookup_and_size() {
         visible_fraction(nothing, 0, 0).unwrap_err(),
         estimate_visible_size(nothing, 0, 0).unwrap_err(),
         estimate_run_visible_size(nothing, 0).unwrap_err(),
+        sample_anchors(1, 0, nothing, nothing, &mut []).unwrap_err(),
+        select_boundaries(1, 0, nothing, &mut []).unwrap_err(),
+        plan_subcompaction_ranges(1, nothing, nothing, &mut []).unwrap_err(),
     ];
     assert!(stops.iter().all(|stop| stop.to_string() == WORDS[0]));
 }

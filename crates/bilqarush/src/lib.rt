@@ -4,6 +4,7 @@
 mod commits;
 mod images;
 mod lookups;
+mod plans;
 mod sizes;
 
 pub use base::Tested;
@@ -36,6 +37,9 @@ pub use lookups::overlaps_range;
 pub use lookups::partition_point;
 pub use lookups::partitions_covering_range;
 pub use lookups::table_idx_covering_range;
+pub use plans::plan_subcompaction_ranges;
+pub use plans::sample_anchors;
+pub use plans::select_boundaries;
 pub use sizes::Estimated;
 pub use sizes::Shown;
 pub use sizes::VisibleFraction;

@@ -3,6 +3,7 @@
 mod images;
 mod lookups;
 mod partitions;
+mod plans;
 mod sizes;
 
 ghost use mathlib.Core.Path.{_≡_};

@@ -13,11 +13,12 @@ use Rattle.comparable_range.specs.Range.{Bound, unbounded, included, excluded, 
 use Rattle.comparable_range.specs.Laws.{keyless}
 use Rattle.format.specs.Range.{writeRange}
 use Rattle.records.specs.Values.{Part}
-use Rattle.records.specs.Layouts.{index}
+use Rattle.records.specs.Layouts.{index, anchors, plan}
 use Rattle.records.specs.Layouts as records
 use Rattle.partitioned_keyspace.specs.Partitions.{Places}
 use Rattle.partitioned_keyspace.specs.Calls.{partitionsCoveringRangeOutcome}
 use Rattle.view_sizes.specs.SizeCalls.{estimateVisibleSizeOutcome}
+use Rattle.subcompaction.specs.PlanCalls.{selectBoundariesOutcome}
 use Rattle.incremental_progress.specs.Intervals.{Interval, subtractFrom}
 use Rattle.incremental_progress.specs.Parts.{durable}
 use Rattle.bilqarush.specs.Calls.{cmpBoundOutcome, nonEmptyOutcome, containsOutcome, fromPrefixOutcome}
@@ -121,6 +122,12 @@ viewImage first last raw visible =
       } ∷ [];
     } ∷ [])
 
+abbrev anchorsOf : List (Key × ℕ) → List ℕ
+anchorsOf l = anchors .write (map (λ p. record { key = p .0; bytes = p .1 }) l)
+
+abbrev planOf : List Range → List ℕ
+planOf p = plan .write p
+
 -- ---- the rows
 unfoldable pub edges : List Edge
 edges =
@@ -143,6 +150,13 @@ edges =
     ∷ (covering (partitionsCoveringRangeOutcome (indexOf (b ∷ [])) (image (included a) (included a))) ∶ places 0 0)
     -- table keys 00 to 80 (hexadecimal), visible [00,40), raw size 5: 3
     ∷ (sizing (estimateVisibleSizeOutcome (viewImage (0x00 ∷ []) (0x80 ∷ []) 5 (range (included (0x00 ∷ [])) (excluded (0x40 ∷ [])))) 0 0) ∶ size 3)
+    -- anchors a,b,c,d of 10 each, 2 parts, least 0: -..c), [c..-
+    ∷ (writing (selectBoundariesOutcome 2 0 (anchorsOf ((a, 10) ∷ (b, 10) ∷ (c, 10) ∷ (d, 10) ∷ [])) 9) ∶ bytes (planOf (range unbounded (excluded c) ∷ range (included c) unbounded ∷ [])))
+    -- the same, 4 parts, least 40: one range
+    ∷ (writing (selectBoundariesOutcome 4 40 (anchorsOf ((a, 10) ∷ (b, 10) ∷ (c, 10) ∷ (d, 10) ∷ [])) 2) ∶ bytes (planOf (range unbounded unbounded ∷ [])))
+    -- equal keys keep their given order: a 5, b 30, b 10, c 5 splits at b, and with the two b exchanged at c
+    ∷ (writing (selectBoundariesOutcome 2 0 (anchorsOf ((a, 5) ∷ (b, 30) ∷ (b, 10) ∷ (c, 5) ∷ [])) 9) ∶ bytes (planOf (range unbounded (excluded b) ∷ range (included b) unbounded ∷ [])))
+    ∷ (writing (selectBoundariesOutcome 2 0 (anchorsOf ((a, 5) ∷ (b, 10) ∷ (b, 30) ∷ (c, 5) ∷ [])) 9) ∶ bytes (planOf (range unbounded (excluded c) ∷ range (included c) unbounded ∷ [])))
     -- [a,z] less [c,f): [a,c), [f,z]; [c,f] less it: [f,f]
     ∷ (ranges (subtractFrom fromCtoF (range (included a) (included z))) ∶ ranges (range (included a) (excluded c) ∷ range (included f) (included z) ∷ []))
     ∷ (ranges (subtractFrom fromCtoF (range (included c) (included f))) ∶ ranges (range (included f) (included f) ∷ []))

@@ -178,6 +178,36 @@ fn sizes() {
     );
 }
 
+// The anchors split into at most so many parts, of at least so many bytes.
+fn print_plan(name: &[u8], parts: usize, least: u64, anchors: &[u8]) {
+    let mut out = [0u8; 16];
+    let w = bilqarush::select_boundaries(parts, least, anchors, &mut out);
+    print_range(name, &out, w);
+}
+
+// Four anchors, a line each.
+fn plans() {
+    let tens = b"\x00\x04\
+          \x00\x01a\x00\x00\x00\x00\x00\x00\x00\x0a\
+          \x00\x01b\x00\x00\x00\x00\x00\x00\x00\x0a\
+          \x00\x01c\x00\x00\x00\x00\x00\x00\x00\x0a\
+          \x00\x01d\x00\x00\x00\x00\x00\x00\x00\x0a";
+    print_plan(b"a,b,c,d of 10, 2 parts, least 0", 2, 0, tens);
+    print_plan(b"a,b,c,d of 10, 4 parts, least 40", 4, 40, tens);
+    let heavy_first = b"\x00\x04\
+          \x00\x01a\x00\x00\x00\x00\x00\x00\x00\x05\
+          \x00\x01b\x00\x00\x00\x00\x00\x00\x00\x1e\
+          \x00\x01b\x00\x00\x00\x00\x00\x00\x00\x0a\
+          \x00\x01c\x00\x00\x00\x00\x00\x00\x00\x05";
+    print_plan(b"a 5, b 30, b 10, c 5, 2 parts", 2, 0, heavy_first);
+    let heavy_next = b"\x00\x04\
+          \x00\x01a\x00\x00\x00\x00\x00\x00\x00\x05\
+          \x00\x01b\x00\x00\x00\x00\x00\x00\x00\x0a\
+          \x00\x01b\x00\x00\x00\x00\x00\x00\x00\x1e\
+          \x00\x01c\x00\x00\x00\x00\x00\x00\x00\x05";
+    print_plan(b"a 5, b 10, b 30, c 5, 2 parts", 2, 0, heavy_next);
+}
+
 // Keys at the ceiling, and past it.
 fn keys() {
     let longest = [97u8; 1024];
@@ -224,6 +254,7 @@ fn main() {
     prefixes();
     partitions();
     sizes();
+    plans();
     keys();
     buffers();
 }

@@ -19,7 +19,7 @@ use Rattle.key.proofs.Digits.{Compared, compared, below, same, above, o
 use Rattle.key.proofs.Passed.{Passed, longer, shorter, ended}
 
 -- equally long fronts decide, or what is left
-by-fronts :
+pub by-fronts :
     (n : ℕ) (k l : List ℕ)
     → n ≤ length k
     → n ≤ length l
@@ -82,7 +82,7 @@ module _ {a b : List ℕ} {i : ℕ} (p : Agree a b i) where
     same-bytes e = key-order-is-total .equal _ _ (sym words ∙ rw e (number-self y))
 
 -- equal numbers the other way round are equal bytes
-eight-more :
+pub eight-more :
     {a b : List ℕ} {i x y : ℕ}
     → Agree a b i
     → i + 8 ≤ length a
@@ -97,7 +97,7 @@ eight-more {a} {b} {i} p h k w z e =
     onward p h k f
 
 -- ---- 32 bytes, one after the other
-one-more : {a b : List ℕ} {n : ℕ} → Agree a b n → n < length a → n < length b → getD a n 0 ≡ getD b n 0 → Agree a b (n + 1)
+pub one-more : {a b : List ℕ} {n : ℕ} → Agree a b n → n < length a → n < length b → getD a n 0 ≡ getD b n 0 → Agree a b (n + 1)
 one-more {a} {b} {n} p h k e =
     record { below-a = omega arith; below-b = omega arith; front = rw (add-one, take-suc a n 0, take-suc b n 0, p .front, e) }
 

@@ -26,7 +26,7 @@ fn half(a: &[u8], i: usize) -> u64
 }
 
 // The eight bytes from i as one number, most significant first. Of two halves, which the compiler makes one load of.
-fn word(a: &[u8], i: usize) -> u64
+pub fn word(a: &[u8], i: usize) -> u64
     requires { do ⌜ i + 8 ≤ (← ⟦a.len()⟧) ⌝ }
     ensures { λ r. ⌜ WordAt (now (a .entry)) i r ⌝ }
 {
@@ -85,7 +85,7 @@ fn cmp_bytes(a: &[u8], b: &[u8]) -> Order
 }
 
 // The length of the shorter key.
-fn shorter(a: &[u8], b: &[u8]) -> usize
+pub fn shorter(a: &[u8], b: &[u8]) -> usize
     ensures { λ r. do ⌜ r ≡ min (← ⟦a.len()⟧ .entry) (← ⟦b.len()⟧ .entry) ⌝ }
 {
     if a.len() < b.len() { a.len() } else { b.len() }
@@ -111,7 +111,7 @@ fn same(a: &[u8], b: &[u8], i: usize) -> bool
 }
 
 // A place up to which the first n bytes of both keys are the same, found 32 bytes at a time: a long way, quickly.
-fn agreed(a: &[u8], b: &[u8], n: usize) -> usize
+pub fn agreed(a: &[u8], b: &[u8], n: usize) -> usize
     requires { do ⌜ n ≡ min (← ⟦a.len()⟧) (← ⟦b.len()⟧) ⌝ }
     ensures { λ r. ⌜ Agree (now (a .entry)) (now (b .entry)) r ⌝ }
 {

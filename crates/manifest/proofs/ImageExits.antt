@@ -237,7 +237,7 @@ counted-within : (most : ℕ) (t : Bool) (w n : ℕ) (l r : List ℕ) → t ≡ 
 counted-within most true w n l r e h = let z : n ≡ w = cc in rw z (leb-true w most (sym e))
 counted-within most false w n l r e h = absurd (let z : _≡_ {A = ℕ} 0 1 = cc in omega arith)
 
-count-within : (most : ℕ) (g : Got ℕ) (n : ℕ) (r : List ℕ) → got n r ≡ andThen g (λ w l. taken (countOf most w) l) → n ≤ most
+pub count-within : (most : ℕ) (g : Got ℕ) (n : ℕ) (r : List ℕ) → got n r ≡ andThen g (λ w l. taken (countOf most w) l) → n ≤ most
 unfolding countOf
 count-within most (got w l) n r h = counted-within most (leb w most) w n l r refl h
 count-within most (stop k) n r h = absurd (let z : _≡_ {A = ℕ} 0 1 = cc in omega arith)

@@ -1,4 +1,4 @@
-// The checks 4 to 7 of an image, a job, an index and anchors, and the effective ranges of an image's views.
+// The checks 4 to 7 of an image, a job and an index, the total of anchors, and the effective ranges of an image's views.
 mod anchors;
 mod checks;
 mod images;
@@ -6,7 +6,9 @@ mod indexes;
 mod jobs;
 mod ranges;
 
-pub use anchors::anchors_judged;
+pub use anchors::added;
+pub use checks::lesser;
+pub use checks::size_passes;
 pub use images::Judged;
 pub use images::image_judged;
 pub use indexes::index_at;

@@ -24,12 +24,12 @@ use Rattle.format.specs.declared.range.BoundSpan.{BoundSpan}
 use Rattle.format.specs.declared.there.KeySpan.{KeySpan}
 use Rattle.format.proofs.ThereExits.{first-got, number-got, range-is, range-there-exits}
 use Rattle.records.specs.Form.{Form, number, taken, key, range, seq, optional, readIf, readMany}
-use Rattle.records.specs.Layouts.{flag, flagOf, upTo, countOf, viewCount, viewCountOf, table, view, viewOf, run, image}
-use Rattle.records.specs.Values.{Table, Image}
+use Rattle.records.specs.Layouts.{flag, flagOf, upTo, countOf, viewCount, viewCountOf, table, view, viewOf, run, image, block}
+use Rattle.records.specs.Values.{Table, Image, Block}
 use Rattle.records.specs.Spans.{ifSo, keyIn, lastIf, runHead}
-use Rattle.records.specs.There.{RunsThere, RunThere, LastThere, TableThere, ViewThere}
+use Rattle.records.specs.There.{RunsThere, RunThere, LastThere, TableThere, ViewThere, BlockThere}
 use Rattle.records.specs.declared.tables.TableSpan.{TableSpan}
-use Rattle.records.proofs.FieldExits.{byte-is, bytes-is, bytes-short, number-short, number-exact, packed-short, seq-short}
+use Rattle.records.proofs.FieldExits.{number-is, byte-is, bytes-is, bytes-short, number-short, number-exact, packed-short, seq-short}
 use Rattle.records.proofs.HeadExits.{image-is}
 use Rattle.records.proofs.TableExits.{numbers-short, rest, opened, some-numbers, byte}
 use Rattle.records.proofs.ViewExits.{free}
@@ -289,3 +289,34 @@ module _ (s : List ℕ) (at : ℕ) (t : T (isGot (view .read (drop at s)))) wher
           }
 
 pub ruleset view-there-exits = (table-fits, table-got, flag-there, after-flag-fits, after-flag, range-got, view-shown, view-hidden, range-there-exits)
+
+-- ---- block_there
+module _ (s : List ℕ) (at : ℕ) (t : T (isGot (block .read (drop at s)))) where
+  block-fields : T (isGot (seq (number 8) (λ offset. key) .read (drop at s)))
+  unfolding block
+  block-fields = first-got (seq (number 8) (λ offset. key) .read (drop at s)) _ t
+
+  pub block-room : at + 8 ≤ length s
+  block-room = left s at 8 (omega arith) (number-got 8 (drop at s) (first-got (readNumber 8 (drop at s)) _ block-fields))
+
+  pub key-field-fits : length s < 2 ^ 64 → Fits w64 (at + 8)
+  key-field-fits k = omega (arith, block-room)
+
+  pub block-key : T (isGot (readKey (drop (at + 8) s)))
+  block-key = first-got (readKey (drop (at + 8) s)) _ (rw (number-is s at 8 block-room) at block-fields)
+
+  module _ {k : KeySpan} (x : KeyThere s (readKey (drop (at + 8) s)) k) where
+    pub block-is : {o : ℕ} → readNumber 8 (drop at s) ≡ got o (drop (at + 8) s) → BlockThere s (block .read (drop at s)) (record { offset = o; key = at + 8; past = k .at + k .len })
+    unfolding block
+    block-is e =
+        record { first = keyIn s (k .at) (k .len); key = x .meaning; meaning = rw (e, x .meaning); inside = x .inside }
+
+-- the block that a walk passes by
+pub record OneBlock (s : List ℕ) (at : ℕ) (k : KeySpan) : Type 0 where
+  pub value : Block
+  pub is : block .read (drop at s) ≡ got value (drop (k .at + k .len) s)
+
+pub block-opened : (s : List ℕ) (at : ℕ) → T (isGot (block .read (drop at s))) → {k : KeySpan} → KeyThere s (readKey (drop (at + 8) s)) k → OneBlock s at k
+block-opened s at t x = record { value = _; is = block-is s at t x (number-is s at 8 (block-room s at t)) .meaning }
+
+pub ruleset block-there-exits = (block-room, key-field-fits, block-key, block-is)

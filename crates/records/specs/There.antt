@@ -7,15 +7,17 @@ use mathlib.Core.List.{List}
 use lib.ListN.{length, drop}
 use Rattle.key.specs.Order.{Key}
 use Rattle.format.specs.Got.{Got, got}
+use Rattle.format.specs.Key.{readKey}
 use Rattle.format.specs.declared.there.KeySpan.{KeySpan}
 use Rattle.records.specs.Form.{readMany}
 use Rattle.records.specs.Found.{valuesOf}
-use Rattle.records.specs.Values.{Table, View, Image}
+use Rattle.records.specs.Values.{Table, View, Image, Block}
 use Rattle.records.specs.Layouts.{run}
 use Rattle.records.specs.Spans.{ifSo, keyIn, tableIn, TableInside, viewIn, ViewInside}
 use Rattle.records.specs.declared.tables.TableSpan.{TableSpan}
 use Rattle.records.specs.declared.views.ViewSpan.{ViewSpan}
 use Rattle.records.specs.declared.there.RunSpan.{RunSpan}
+use Rattle.records.specs.declared.there.BlockSpan.{BlockSpan}
 
 -- how many runs an image at the front has: they stand from its second byte on
 pub record RunsThere (s : List ℕ) (g : Got Image) (n : ℕ) : Type 0 where
@@ -38,6 +40,13 @@ pub record TableThere (s : List ℕ) (g : Got Table) (t : TableSpan) : Type 0 wh
 pub record ViewThere (s : List ℕ) (g : Got View) (v : ViewSpan) : Type 0 where
   pub meaning : g ≡ got (viewIn s v) (drop (v .past) s)
   pub inside : ViewInside s v
+
+-- a block, whose first key is read where the answer says
+pub record BlockThere (s : List ℕ) (g : Got Block) (b : BlockSpan) : Type 0 where
+  pub first : Key
+  pub key : readKey (drop (b .key) s) ≡ got first (drop (b .past) s)
+  pub meaning : g ≡ got (record { offset = b .offset; first = first }) (drop (b .past) s)
+  pub inside : b .past ≤ length s
 
 -- the place past some values
 pub record Past {A : Type 0} (s : List ℕ) (g : Got (List A)) (r : ℕ) : Type 0 where

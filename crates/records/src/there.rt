@@ -1,4 +1,4 @@
-// Runs, views and tables that are known to be there: what was read once is read again without a test.
+// Runs, views, tables and blocks that are known to be there: what was read once is read again without a test.
 use crate::tables::TableSpan;
 use crate::views::ViewSpan;
 use comparable_range::Kind;
@@ -10,9 +10,9 @@ ghost use lib.ListN.{length, drop};
 ghost use lib.Dec.{T, eqb};
 ghost use Rattle.format.specs.Got.{isGot};
 ghost use Rattle.records.specs.Form.{readMany};
-ghost use Rattle.records.specs.Layouts.{table, view, image};
+ghost use Rattle.records.specs.Layouts.{table, view, image, block};
 ghost use Rattle.records.specs.Spans.{lastIf, runHead};
-ghost use Rattle.records.specs.There.{RunsThere, RunThere, LastThere, TableThere, ViewThere, Past};
+ghost use Rattle.records.specs.There.{RunsThere, RunThere, LastThere, TableThere, ViewThere, BlockThere, Past};
 
 // A run's id, how many views it has, and the place of the first.
 pub struct RunSpan {
@@ -132,6 +132,43 @@ pub fn views_end(s: &[u8], from: usize, n: usize) -> usize
     while seen < n {
         let v = view_there(s, at);
         at = v.past;
+        seen += 1;
+    }
+    at
+}
+
+// A block's offset, the place of its first key's field, and the place past it.
+pub struct BlockSpan {
+    pub offset: u64,
+    pub key: usize,
+    pub past: usize,
+}
+
+// The block at a place.
+pub fn block_there(s: &[u8], at: usize) -> BlockSpan
+    requires { ⌜ T (isGot (block .read (drop at (now s)))) ⌝ }
+    ensures { λ r. ⌜ BlockThere (now (s .entry)) (block .read (drop at (now (s .entry)))) r ⌝ }
+{
+    let offset = format::number_there(s, at, 8);
+    let key = at + 8;
+    let first = format::key_there(s, key);
+    BlockSpan {
+        offset,
+        key,
+        past: first.at + first.len,
+    }
+}
+
+// The place past n blocks. Their offsets are not read.
+pub fn blocks_past(s: &[u8], from: usize, n: usize) -> usize
+    requires { ⌜ from ≤ length (now s) ⌝ ∗ ⌜ T (isGot (readMany (block .read) n (drop from (now s)))) ⌝ }
+    ensures { λ r. ⌜ Past (now (s .entry)) (readMany (block .read) n (drop from (now (s .entry)))) r ⌝ }
+{
+    let mut seen = 0;
+    let mut at = from;
+    while seen < n {
+        let first = format::key_there(s, at + 8);
+        at = first.at + first.len;
         seen += 1;
     }
     at

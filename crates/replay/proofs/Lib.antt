@@ -2,3 +2,4 @@
 pub mod Parts
 pub mod Kept
 pub mod Agreed
+pub mod Fronts

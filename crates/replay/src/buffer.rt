@@ -3,11 +3,22 @@ use crate::answer;
 use base::Written;
 ghost use mathlib.Core.Path.{_≡_};
 ghost use mathlib.Core.Bool.{true};
+ghost use lib.ListN.{take};
 ghost use Rattle.replay.specs.Unwritten.{Unwritten};
 ghost use Rattle.replay.specs.Recorded.{Holds, Stopped, Recorded};
 
 // A byte that says that a buffer's byte was not written.
 const UNWRITTEN: u8 = 165;
+
+// The front of a buffer.
+pub fn front(buffer: &[u8], length: usize) -> &[u8]
+    ensures { λ r. ⌜ now r ≡ take length (now (buffer .entry)) ⌝ }
+{
+    if length <= buffer.len() {
+        return &buffer[..length];
+    }
+    buffer
+}
 
 pub fn fill(out: &mut [u8]) {
     let mut i = 0;

@@ -4,7 +4,7 @@ use native.Mathlib.Omega.{arith}
 use mathlib.Core.Path.{_≡_, refl, sym, ap, _∙_}
 use mathlib.Core.List.{List}
 use lib.ListN.{length, take, drop, length-take}
-use lib.Seq.{take-at, take-all}
+use lib.Seq.{take-at}
 use Rattle.base.specs.Splice.{splice}
 use Rattle.base.specs.declared.Written.{Written}
 use Rattle.base.specs.declared.Written.the-variants.{Wrote, Stop}
@@ -20,10 +20,6 @@ module _ (given out : List ℕ) {w : Written} {n : ℕ} where
   pub front-goes-on : {f g : List ℕ} → w ≡ Wrote n → f ≡ g → g ≡ take n out → f ≡ handedOn given out w
   front-goes-on e h q = h ∙ q ∙ sym (ap (handedOn given out) e)
 
--- a buffer that is no longer than its front is that front
-pub all-of : (s : List ℕ) (n : ℕ) → length s < n → s ≡ take n s
-all-of s n h = sym (take-all n s (omega arith))
-
 -- a front is no longer than its buffer
 pub front-fits : (s d : List ℕ) (n : ℕ) {f : List ℕ} → f ≡ take n s → length s ≤ length d → length f ≤ length d
 front-fits s d n e h = rw (ap length e, length-take) (omega arith)
@@ -31,4 +27,4 @@ front-fits s d n e h = rw (ap length e, length-take) (omega arith)
 pub front-is-short : (s : List ℕ) (n m : ℕ) → n ≤ m → length (take n s) ≤ m
 front-is-short s n m h = simp length-take (omega arith)
 
-pub ruleset handed-exits = (front-stands, kept, front-goes-on, all-of, front-fits, front-is-short)
+pub ruleset handed-exits = (front-stands, kept, front-goes-on, front-fits, front-is-short)

@@ -8,16 +8,6 @@ ghost use lib.ListN.{length, take};
 ghost use Rattle.replay.specs.Recorded.{Recorded};
 ghost use Rattle.replay_commits.specs.Lists.{handedOn};
 
-// The front of a buffer.
-pub fn front(buffer: &[u8], length: usize) -> &[u8]
-    ensures { λ r. ⌜ now r ≡ take length (now (buffer .entry)) ⌝ }
-{
-    if length <= buffer.len() {
-        return &buffer[..length];
-    }
-    buffer
-}
-
 // What a commit answered, and whether that and the lent buffer are what was recorded.
 pub struct Made {
     pub agreed: bool,
@@ -50,6 +40,6 @@ pub fn hand_on(image: &mut [u8], held: usize, out: &[u8], written: Written) -> u
 {
     match written {
         Written::Stop(_) => held,
-        Written::Wrote(n) => put_front(image, front(out, n)),
+        Written::Wrote(n) => put_front(image, buffer::front(out, n)),
     }
 }

@@ -8,6 +8,7 @@ mod commits;
 
 use base::Written;
 use buffers::Lengths;
+use replay::buffer;
 use replay::input;
 use replay::piece;
 use replay::piece::Fields;
@@ -94,10 +95,10 @@ fn commit_turn(
     requires { ⌜ length (now out) ≤ length (now image) ⌝ }
 {
     let made = commits::commit(
-        commits::front(image, held.image),
-        commits::front(job, held.job),
-        commits::front(ids, held.ids),
-        commits::front(answer, held.answer),
+        buffer::front(image, held.image),
+        buffer::front(job, held.job),
+        buffer::front(ids, held.ids),
+        buffer::front(answer, held.answer),
         out,
     );
     let written = made.written;

@@ -111,7 +111,7 @@ crowd-within =
       };
     }
 
-written-back : {A : Type 0} (f : Form A) → Lawful f → (v : A) → f .Within v → leb (length (f .write v)) 65536 ≡ true → whole (f .read) (f .write v) ≡ answer v
+pub written-back : {A : Type 0} (f : Form A) → Lawful f → (v : A) → f .Within v → leb (length (f .write v)) 65536 ≡ true → whole (f .read) (f .write v) ≡ answer v
 unfolding whole
 written-back f L v w h = rw (h, ← append-nil (f .write v), L .back v [] w)
 

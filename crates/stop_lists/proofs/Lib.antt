@@ -1,8 +1,11 @@
 pub mod Stopping
 pub mod GivenStops
 pub mod LookupStops
+pub mod PlanStops
 pub mod Stops
 pub mod Refused
 pub mod LookupsReached
+pub mod ManyAnchors
+pub mod PlansReached
 pub mod Reached
 pub mod Crowded

@@ -39,6 +39,7 @@ use Rattle.bilqarush.specs.ImageCalls.{checkImageOutcome, compactedEffectiveRan
 use Rattle.stop_lists.specs.Stops.{intersectStops, visibleSizeStops, Reached, no-more, reached, EachListedStopIsReached, GivenToCommit, CommitStopsAreReached}
 use Rattle.stop_lists.proofs.Crowded.{zeros, crowd, bare, crowd-is-refused}
 use Rattle.stop_lists.proofs.Refused.{padded, long, empty, every, aTable, imageOf, paddedRun, tooManyRuns, emptyView, turned, twice, large, noRuns}
+use Rattle.stop_lists.proofs.PlansReached.{sampling, selecting, planning}
 use Rattle.stop_lists.proofs.LookupsReached.{reached-by, after, partition-point, first-partition, first-or-after, last-partition, partitions-covering, table-idx, overlaps, compacted-intersection, view-range, intersects}
 
 intersecting : Reached (λ (x : List ℕ × List ℕ). intersectOutcome (x .0) (x .1)) intersectStops
@@ -97,6 +98,9 @@ each-listed-stop-is-reached =
       visible-fraction = reached-by (λ l n e. rw e) first-view;
       estimate-visible-size = reached-by (λ l n e. rw e) first-view;
       estimate-run-visible-size = reached-by (λ l n. after (imageGiven l) (λ i e. rw e)) first-run;
+      sample-anchors = sampling;
+      select-boundaries = selecting;
+      plan-subcompaction-ranges = planning;
     }
 
 -- ---- commits

@@ -21,7 +21,7 @@ use Rattle.format.specs.declared.range.Head.{Head}
 use Rattle.format.specs.declared.range.Head.the-variants.{Kinds, Stop as HeadStop}
 use Rattle.format.specs.Whole.{ended, whole, keyGiven}
 use Rattle.records.specs.Form.{Form, number, bytes, key, range, taken, packed, seq, named, readIf, optional, readMany, many}
-use Rattle.records.specs.Layouts.{flagOf, flag, countOf, upTo, viewCountOf, viewCount, outputsOf, outputCount, counted, tableOf, tableFields, table, viewOf, viewFields, view, run, image, partOf, partFields, part, job, block, index}
+use Rattle.records.specs.Layouts.{flagOf, flag, countOf, upTo, viewCountOf, viewCount, outputsOf, outputCount, counted, tableOf, tableFields, table, viewOf, viewFields, view, run, image, partOf, partFields, part, job, block, index, anchor, anchors}
 use Rattle.manifest.specs.Checks.{has}
 use Rattle.incremental_progress.specs.Repeated.{StopsIn}
 use Rattle.incremental_progress.proofs.Repeated.{answers, stops}
@@ -121,6 +121,14 @@ module _ {ns : List ℕ} (K : ReadsKeys ns) where
         reads = λ l. reads-then (readNumber 2 l) (number-stops 2 .reads l) (λ n r. reads-either (leb n 1024) (bytes-stops n .reads r) (reads-stop 3 (K .three)));
       }
 
+  pub packed-stops : {A : Type 0} (n : ℕ) {parts : ℕ → Outcome A} (joined : A → ℕ) (Within : A → Type 0) → ((w : ℕ) → StopsIn ns (parts w)) → FormStops ns (packed n parts joined Within)
+  packed-stops n {parts} joined Within P =
+      record { reads = λ l. reads-then (readNumber n l) (number-stops n .reads l) (λ w r. reads-taken (parts w) r (P w)) }
+
+  up-to-stops : (n most : ℕ) → FormStops ns (upTo n most)
+  unfolding countOf
+  up-to-stops n most = packed-stops n _ _ (λ w. checks 3 (leb w most) (K .three) (λ _. answers _))
+
   -- ---- an index
   block-stops : FormStops ns block
   unfolding block
@@ -129,6 +137,15 @@ module _ {ns : List ℕ} (K : ReadsKeys ns) where
   pub index-stops : FormStops ns index
   unfolding index
   index-stops = counted-stops (number-stops 2) block-stops
+
+  -- ---- anchors
+  anchor-stops : FormStops ns anchor
+  unfolding anchor
+  anchor-stops = named-stops _ _ (seq-stops key-stops (λ _. number-stops 8))
+
+  pub anchors-stops : FormStops ns anchors
+  unfolding anchors
+  anchors-stops = counted-stops (up-to-stops 2 4096) anchor-stops
 
   -- ---- a buffer read whole
   ended-stops : {A : Type 0} (g : Got A) → ReaderStops ns g → StopsIn ns (ended g)
@@ -176,25 +193,17 @@ module _ {ns : List ℕ} (R : Reads ns) where
   pub range-stops : FormStops ns range
   range-stops = record { reads = headed-stops }
 
-  pub packed-stops : {A : Type 0} (n : ℕ) {parts : ℕ → Outcome A} (joined : A → ℕ) (Within : A → Type 0) → ((w : ℕ) → StopsIn ns (parts w)) → FormStops ns (packed n parts joined Within)
-  packed-stops n {parts} joined Within P =
-      record { reads = λ l. reads-then (readNumber n l) (number-stops (R .keys) n .reads l) (λ w r. reads-taken (parts w) r (P w)) }
-
   flag-stops : FormStops ns flag
   unfolding flagOf
-  flag-stops = packed-stops 1 _ _ (λ w. checks 2 (eqb (w % 128) 0) (R .two) (λ _. answers _))
-
-  up-to-stops : (n most : ℕ) → FormStops ns (upTo n most)
-  unfolding countOf
-  up-to-stops n most = packed-stops n _ _ (λ w. checks 3 (leb w most) (R .keys .three) (λ _. answers _))
+  flag-stops = packed-stops (R .keys) 1 _ _ (λ w. checks 2 (eqb (w % 128) 0) (R .two) (λ _. answers _))
 
   view-count-stops : FormStops ns viewCount
   unfolding viewCountOf
-  view-count-stops = packed-stops 2 _ _ (λ w. checks 3 (leb (w / 16) 1024) (R .keys .three) (λ _. checks 2 (eqb (w % 16) 0) (R .two) (λ _. answers _)))
+  view-count-stops = packed-stops (R .keys) 2 _ _ (λ w. checks 3 (leb (w / 16) 1024) (R .keys .three) (λ _. checks 2 (eqb (w % 16) 0) (R .two) (λ _. answers _)))
 
   output-count-stops : FormStops ns outputCount
   unfolding outputsOf
-  output-count-stops = packed-stops 2 _ _ (λ w. checks 3 (leb (w % 32768) 1024) (R .keys .three) (λ _. answers _))
+  output-count-stops = packed-stops (R .keys) 2 _ _ (λ w. checks 3 (leb (w % 32768) 1024) (R .keys .three) (λ _. answers _))
 
   -- ---- the layouts
   table-stops : FormStops ns table
@@ -214,7 +223,7 @@ module _ {ns : List ℕ} (R : Reads ns) where
 
   pub image-stops : FormStops ns image
   unfolding image
-  image-stops = counted-stops (up-to-stops 1 64) run-stops
+  image-stops = counted-stops (up-to-stops (R .keys) 1 64) run-stops
 
   part-stops : FormStops ns part
   unfolding part
@@ -224,4 +233,4 @@ module _ {ns : List ℕ} (R : Reads ns) where
   unfolding job
   job-stops =
       named-stops _ _
-      (seq-stops (number-stops (R .keys) 4) (λ _. seq-stops (counted-stops (up-to-stops 1 64) (number-stops (R .keys) 4)) (λ _. counted-stops (up-to-stops 1 64) part-stops)))
+      (seq-stops (number-stops (R .keys) 4) (λ _. seq-stops (counted-stops (up-to-stops (R .keys) 1 64) (number-stops (R .keys) 4)) (λ _. counted-stops (up-to-stops (R .keys) 1 64) part-stops)))

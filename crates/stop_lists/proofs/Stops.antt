@@ -34,6 +34,7 @@ use Rattle.incremental_progress.proofs.Repeated.{answers, stops}
 use Rattle.stop_lists.proofs.Stopping.{checks, and-then, written, key-given, job-stops, whole-stops}
 use Rattle.stop_lists.proofs.GivenStops.{whole-range, range-given, ranges-given, bound-given, three-listed, seven-listed, checked-stops, whole-image, image-given, views-at, view-given}
 use Rattle.stop_lists.proofs.LookupStops.{index-and-key, index-and-range, table-idx-stops, overlaps-stops, compacted-intersection-stops, view-range-stops, intersects-stops}
+use Rattle.stop_lists.proofs.PlanStops.{sample-anchors-stops, select-boundaries-stops, plan-stops}
 
 -- ---- a commit
 drawn-stops : {ns : List ℕ} {A : Type 0} (d : Drawn A) → has 14 ns ≡ true → StopsIn ns (drawnOr d)
@@ -120,6 +121,9 @@ each-stop-is-listed =
       estimate-run-visible-size = λ l run.
           and-then (imageGiven l) (image-given seven-listed l) (λ i.
           and-then (viewsAt i run) (views-at i run refl) (λ vs. answers _));
+      sample-anchors = sample-anchors-stops;
+      select-boundaries = select-boundaries-stops;
+      plan-subcompaction-ranges = plan-stops;
       commit = commit-stops;
     }
 
@@ -163,5 +167,8 @@ no-stop-is-zero =
       visible-fraction = λ l run view. unlisted 0 (each .visible-fraction l run view) refl;
       estimate-visible-size = λ l run view. unlisted 0 (each .estimate-visible-size l run view) refl;
       estimate-run-visible-size = λ l run. unlisted 0 (each .estimate-run-visible-size l run) refl;
+      sample-anchors = λ most dataEnd l q room. unlisted 0 (each .sample-anchors most dataEnd l q room) refl;
+      select-boundaries = λ parts least l room. unlisted 0 (each .select-boundaries parts least l room) refl;
+      plan-subcompaction-ranges = λ parts l m room. unlisted 0 (each .plan-subcompaction-ranges parts l m room) refl;
       commit = λ given job′ ids room. unlisted 0 (each .commit given job′ ids room) refl;
     }

@@ -10,6 +10,7 @@ use Rattle.partitioned_keyspace.specs.declared.Test.{Test}
 use Rattle.partitioned_keyspace.specs.declared.Test.the-variants.{Below}
 use Rattle.db_state.specs.LookupCalls.{tableIdxCoveringRangeOutcome, overlapsRangeOutcome, compactedIntersectionOutcome, calculateViewRangeOutcome, intersectsRangeOutcome}
 use Rattle.view_sizes.specs.SizeCalls.{visibleFractionOutcome, estimateVisibleSizeOutcome, estimateRunVisibleSizeOutcome}
+use Rattle.subcompaction.specs.PlanCalls.{sampleAnchorsOutcome, selectBoundariesOutcome, planSubcompactionRangesOutcome}
 use Rattle.incremental_progress.specs.Commit.{commitOutcome}
 use Rattle.incremental_progress.specs.Repeated.{StopsIn}
 use Rattle.bilqarush.specs.Calls.{compareOutcome, cmpBoundOutcome, nonEmptyOutcome, containsOutcome, asPointOutcome, intersectOutcome, intersectStartKeyOutcome, intersectEndKeyOutcome, unionOutcome, fromPrefixOutcome, fromPrefixAndSubrangeOutcome}
@@ -80,6 +81,20 @@ rangeLookupStops = 1 ∷ 2 ∷ 3 ∷ 4 ∷ 5 ∷ 6 ∷ 7 ∷ 9 ∷ []
 abbrev pub visibleSizeStops : List ℕ
 visibleSizeStops = 1 ∷ 2 ∷ 3 ∷ 4 ∷ 5 ∷ 6 ∷ 7 ∷ 9 ∷ []
 
+-- the setting is above its ceiling, the index or the range is not read, the range fails `non_empty`, first keys descend, the
+-- buffer is shorter than the anchors
+abbrev pub sampleAnchorsStops : List ℕ
+sampleAnchorsStops = 1 ∷ 2 ∷ 3 ∷ 4 ∷ 6 ∷ 16 ∷ []
+
+-- the setting is above its ceiling, the anchors are not read, their bytes total 2^63 or more, the buffer is shorter than the plan
+abbrev pub selectBoundariesStops : List ℕ
+selectBoundariesStops = 1 ∷ 3 ∷ 7 ∷ 16 ∷ []
+
+-- the setting is above its ceiling, the image or an index image is not read or fails a check, over 4,096 anchors are sampled, the
+-- buffer is shorter than the plan
+abbrev pub planSubcompactionRangesStops : List ℕ
+planSubcompactionRangesStops = 1 ∷ 2 ∷ 3 ∷ 4 ∷ 5 ∷ 6 ∷ 7 ∷ 15 ∷ 16 ∷ []
+
 -- every one but 13: a retained range never misses its table's own range
 abbrev pub commitStops : List ℕ
 commitStops = 1 ∷ 2 ∷ 3 ∷ 4 ∷ 5 ∷ 6 ∷ 7 ∷ 8 ∷ 9 ∷ 10 ∷ 11 ∷ 12 ∷ 14 ∷ 15 ∷ 16 ∷ []
@@ -125,6 +140,15 @@ pub record OfEachCall (Says : (A : Type 0) → List ℕ → Outcome A → Type 0
   pub visible-fraction : (image : List ℕ) (run view : ℕ) → Says _ visibleSizeStops (visibleFractionOutcome image run view)
   pub estimate-visible-size : (image : List ℕ) (run view : ℕ) → Says _ visibleSizeStops (estimateVisibleSizeOutcome image run view)
   pub estimate-run-visible-size : (image : List ℕ) (run : ℕ) → Says _ visibleSizeStops (estimateRunVisibleSizeOutcome image run)
+  pub sample-anchors :
+      (most dataEnd : ℕ) (index range : List ℕ) (room : ℕ)
+      → Says _ sampleAnchorsStops (sampleAnchorsOutcome most dataEnd index range room)
+  pub select-boundaries :
+      (parts least : ℕ) (anchors : List ℕ) (room : ℕ)
+      → Says _ selectBoundariesStops (selectBoundariesOutcome parts least anchors room)
+  pub plan-subcompaction-ranges :
+      (parts : ℕ) (image indexes : List ℕ) (room : ℕ)
+      → Says _ planSubcompactionRangesStops (planSubcompactionRangesOutcome parts image indexes room)
   pub commit : (image job ids : List ℕ) (room : ℕ) → Says _ commitStops (commitOutcome image job ids room)
 
 -- no call stops with a number that is not in its list
@@ -173,6 +197,9 @@ pub record EachListedStopIsReached : Type 0 where
   pub visible-fraction : Reached (λ (image : List ℕ). visibleFractionOutcome image 0 0) visibleSizeStops
   pub estimate-visible-size : Reached (λ (image : List ℕ). estimateVisibleSizeOutcome image 0 0) visibleSizeStops
   pub estimate-run-visible-size : Reached (λ (image : List ℕ). estimateRunVisibleSizeOutcome image 0) visibleSizeStops
+  pub sample-anchors : Reached (λ (x : List ℕ × List ℕ). sampleAnchorsOutcome 1 0 (x .0) (x .1) 0) sampleAnchorsStops
+  pub select-boundaries : Reached (λ (x : ℕ × List ℕ). selectBoundariesOutcome (x .0) 0 (x .1) 0) selectBoundariesStops
+  pub plan-subcompaction-ranges : Reached (λ (x : List ℕ × List ℕ). planSubcompactionRangesOutcome 1 (x .0) (x .1) 0) planSubcompactionRangesStops
 
 pub record GivenToCommit : Type 0 where
   pub image : List ℕ

@@ -4,6 +4,7 @@ pub mod images;
 pub mod lookups;
 pub mod paper;
 pub mod plain;
+pub mod plans;
 pub mod ranges;
 pub mod sizes;
 pub mod steps;

@@ -2,10 +2,8 @@
 use super::{number, Checked, Reader};
 use crate::{Block, Index};
 
-/// Checks 1 and 3 of a buffer that holds one index, its rest included. A block count has no ceiling
-/// of its own.
-pub fn read_index(buffer: &[u8]) -> Checked<Index> {
-    let mut reader = Reader::new(buffer)?;
+/// The blocks of one index. A block count has no ceiling of its own.
+fn read_blocks(reader: &mut Reader) -> Checked<Index> {
     let count = number(reader.take(2)?);
     let mut blocks = vec![];
     for _ in 0..count {
@@ -14,8 +12,24 @@ pub fn read_index(buffer: &[u8]) -> Checked<Index> {
             first: reader.key()?,
         });
     }
+    Ok(blocks)
+}
+
+/// Checks 1 and 3 of a buffer that holds one index, its rest included.
+pub fn read_index(buffer: &[u8]) -> Checked<Index> {
+    let mut reader = Reader::new(buffer)?;
+    let blocks = read_blocks(&mut reader)?;
     reader.end()?;
     Ok(blocks)
+}
+
+/// Checks 1 and 3 of a buffer that holds so many indexes, end to end. Its rest is tested after the last.
+pub fn read_indexes(buffer: &[u8], count: usize) -> Checked<Vec<Index>> {
+    let mut reader = Reader::new(buffer)?;
+    let indexes = (0..count).map(|_| read_blocks(&mut reader));
+    let indexes = indexes.collect::<Checked<_>>()?;
+    reader.end()?;
+    Ok(indexes)
 }
 
 /// Check 6: first keys do not descend.

@@ -49,7 +49,7 @@ impl ReadImage {
         Ok(ReadImage { runs, later })
     }
 
-    /// Where nothing is asked for but places, which are looked up after all of these checks.
+    /// Where nothing more is read, or only places are asked for, which come after all of these checks.
     pub fn passed(&self) -> Checked<()> {
         self.later
     }

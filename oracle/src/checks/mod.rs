@@ -7,6 +7,7 @@ mod indexes;
 mod jobs;
 mod lists;
 mod lookups;
+mod plans;
 mod ranges;
 mod reader;
 
@@ -17,6 +18,7 @@ pub use indexes::*;
 pub use jobs::*;
 pub use lists::*;
 pub use lookups::*;
+pub use plans::*;
 pub use ranges::*;
 pub use reader::*;
 
@@ -32,3 +34,5 @@ pub const SIZE_CEILING: u128 = 1 << 53;
 pub const SOURCE_CEILING: u8 = 64;
 pub const PART_CEILING: u8 = 64;
 pub const OUTPUT_CEILING: u16 = 1_024;
+pub const ANCHOR_CEILING: usize = 4_096;
+pub const TOTAL_CEILING: u128 = 1 << 63;

@@ -3,6 +3,7 @@ use super::Checked;
 use crate::bytes_range::BytesRange;
 use crate::compactor_state::{Compaction, CompactionContext, CompactionSpec, SourceId};
 use crate::db_state::{SortedRun, SsTableHandle, SsTableId, SsTableInfo, SsTableView};
+use crate::flatbuffer_types::SsTableIndexOwned;
 use crate::manifest::ManifestCore;
 use crate::subcompaction::{Subcompaction, SubcompactionStatus};
 use bytes::Bytes;
@@ -19,7 +20,7 @@ const PART_CEILING: u8 = 64;
 const OUTPUT_CEILING: u16 = 1_024;
 /// The least bytes of a table, for the capacity of a list whose count promises too much.
 const TABLE_LEAST: usize = 43;
-/// The same of a block of an index.
+/// The same of a block of an index, and of an anchor.
 const BLOCK_LEAST: usize = 10;
 
 /// Numbers are read from the caller's bytes; keys are slices of one copy of them.
@@ -163,6 +164,52 @@ impl<'a> Fields<'a> {
         }
         self.end()?;
         Ok(runs)
+    }
+
+    /// Runs whose views are numbered in their order, as the stand-in for `read_index` has it, and how many
+    /// views there are.
+    pub(super) fn numbered_runs(&mut self) -> Checked<(Vec<SortedRun>, usize)> {
+        let count = self.run_count()?;
+        let mut runs = Vec::with_capacity(count);
+        let mut places = 0;
+        for _ in 0..count {
+            let (id, count) = self.run_head()?;
+            let mut views = Vec::with_capacity(self.room_for(count));
+            for _ in 0..count {
+                let mut view = self.view()?;
+                view.table.info.stats_len = places;
+                views.push(view.built());
+                places += 1;
+            }
+            runs.push(SortedRun::new(id, views));
+        }
+        self.end()?;
+        Ok((runs, places as usize))
+    }
+
+    /// One index, which may not be all of the buffer.
+    pub(super) fn index(&mut self) -> Checked<SsTableIndexOwned> {
+        let count = usize::from(u16::from_be_bytes(self.take()?));
+        let mut blocks = Vec::with_capacity(count.min(self.left() / BLOCK_LEAST));
+        for _ in 0..count {
+            let offset = u64::from_be_bytes(self.take()?);
+            blocks.push((offset, self.key()?));
+        }
+        Ok(SsTableIndexOwned::from_blocks(blocks))
+    }
+
+    pub(super) fn anchors(&mut self, ceiling: usize) -> Checked<Vec<(Bytes, u64)>> {
+        let count = usize::from(u16::from_be_bytes(self.take()?));
+        if count > ceiling {
+            return Err(3);
+        }
+        let mut anchors = Vec::with_capacity(count.min(self.left() / BLOCK_LEAST));
+        for _ in 0..count {
+            let key = self.key()?;
+            anchors.push((key, u64::from_be_bytes(self.take()?)));
+        }
+        self.end()?;
+        Ok(anchors)
     }
 
     /// The first keys of an index. Its offsets are passed over.

@@ -35,7 +35,7 @@ impl<'a> Room<'a> {
         self.put(&[u8::from(set) << 7])
     }
 
-    fn key(&mut self, key: &[u8]) -> Checked<()> {
+    pub(super) fn key(&mut self, key: &[u8]) -> Checked<()> {
         self.put(&(key.len() as u16).to_be_bytes())?;
         self.put(key)
     }

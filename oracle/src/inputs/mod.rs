@@ -5,6 +5,7 @@ pub mod commits;
 pub mod images;
 mod keys;
 pub mod lookups;
+pub mod plans;
 pub mod ranges;
 pub mod sizes;
 mod tables;

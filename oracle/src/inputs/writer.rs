@@ -1,4 +1,4 @@
-//! Writes ranges, images, jobs and indexes, and keeps where each field begins.
+//! Writes ranges, images, jobs, indexes, anchors and plans, and keeps where each field begins.
 use crate::{key_of, kind_of, Block, Job, Key, Range, Run, Table, View};
 
 pub fn range_image(range: &Range) -> Vec<u8> {
@@ -39,10 +39,14 @@ pub enum Field {
     OutputCount,
     BlockCount,
     Offset,
+    AnchorCount,
+    KeyLength,
+    Key,
+    Bytes,
 }
 
 /// Where a field begins. Counts and kinds share their byte with what follows them. In a job
-/// a part stands for a run and its outputs for views, in an index blocks do for views.
+/// a part stands for a run and its outputs for views, in an index blocks do for views, in anchors each one.
 #[derive(Clone, Copy)]
 pub struct Mark {
     pub field: Field,
@@ -178,4 +182,25 @@ pub fn blocks(first_keys: &[Key]) -> Vec<Block> {
 
 pub fn index(first_keys: &[Key]) -> Vec<u8> {
     write_index(&blocks(first_keys)).0
+}
+
+/// The bytes and marks of anchors. The count is cut to 16 bits.
+pub fn write_anchors(anchors: &[(Key, u64)]) -> (Vec<u8>, Vec<Mark>) {
+    let mut writer = Writer::default();
+    writer.put(Field::AnchorCount, &(anchors.len() as u16).to_be_bytes());
+    for (place, (key, bytes)) in anchors.iter().enumerate() {
+        writer.view = place;
+        writer.key(Field::KeyLength, Field::Key, key);
+        writer.put(Field::Bytes, &bytes.to_be_bytes());
+    }
+    (writer.bytes, writer.marks)
+}
+
+pub fn anchors(anchors: &[(Key, u64)]) -> Vec<u8> {
+    write_anchors(anchors).0
+}
+
+pub fn plan(ranges: &[Range]) -> Vec<u8> {
+    let ranges: Vec<Vec<u8>> = ranges.iter().map(range_image).collect();
+    [vec![ranges.len() as u8], ranges.concat()].concat()
 }

@@ -1,4 +1,4 @@
-//! Images, jobs and indexes, field after field as document 01 lays them out, and buffers that are lent to a call.
+//! Images, jobs, indexes and anchors, field after field as document 01 lays them out, and buffers that are lent to a call.
 #![allow(dead_code)]
 use bilqarush::{range_image, Stop};
 use std::ops::Bound;
@@ -29,10 +29,21 @@ fn key(key: &str) -> Vec<u8> {
 
 /// A table with the index at an offset and of a length.
 pub fn sized_table(id: u128, first: &str, last: Option<&str>, index: [u64; 2]) -> Vec<u8> {
+    ended_table(id, first, last, index, 3840)
+}
+
+/// The same, with the filter at an offset, where the data end.
+pub fn ended_table(
+    id: u128,
+    first: &str,
+    last: Option<&str>,
+    index: [u64; 2],
+    filter_offset: u64,
+) -> Vec<u8> {
     let mut table = id.to_be_bytes().to_vec();
     table.extend(index[0].to_be_bytes());
     table.extend(index[1].to_be_bytes());
-    table.extend(3840u64.to_be_bytes());
+    table.extend(filter_offset.to_be_bytes());
     table.push(if last.is_some() { 0x80 } else { 0 });
     table.extend(key(first));
     table.extend(last.map_or(vec![], key));
@@ -87,12 +98,40 @@ pub fn job(destination: u32, sources: &[u32], parts: &[Vec<u8>]) -> Vec<u8> {
 
 /// An index of blocks with these first keys.
 pub fn index(first_keys: &[&str]) -> Vec<u8> {
-    let mut index = (first_keys.len() as u16).to_be_bytes().to_vec();
-    for (first, offset) in first_keys.iter().zip((0u64..).step_by(4096)) {
+    let offsets = (0u64..).step_by(4096);
+    let blocks: Vec<(u64, &str)> = offsets.zip(first_keys.iter().copied()).collect();
+    placed_index(&blocks)
+}
+
+/// An index of blocks with these offsets and first keys.
+pub fn placed_index(blocks: &[(u64, &str)]) -> Vec<u8> {
+    let mut index = (blocks.len() as u16).to_be_bytes().to_vec();
+    for (offset, first) in blocks {
         index.extend(offset.to_be_bytes());
         index.extend(key(first));
     }
     index
+}
+
+/// Anchors with these keys and bytes.
+pub fn anchors(list: &[(&str, u64)]) -> Vec<u8> {
+    let mut anchors = (list.len() as u16).to_be_bytes().to_vec();
+    for (name, bytes) in list {
+        anchors.extend(key(name));
+        anchors.extend(bytes.to_be_bytes());
+    }
+    anchors
+}
+
+/// The plan whose ranges meet at these keys.
+pub fn plan(boundaries: &[&str]) -> Vec<u8> {
+    let starts = [Bound::Unbounded].into_iter();
+    let starts = starts.chain(boundaries.iter().map(|key| included(key)));
+    let ends = boundaries.iter().map(|key| excluded(key));
+    let ends = ends.chain([Bound::Unbounded]);
+    let mut plan = vec![boundaries.len() as u8 + 1];
+    plan.extend(starts.zip(ends).flat_map(|(start, end)| range(start, end)));
+    plan
 }
 
 /// Document 01's example: run 7 with table 1 (first a, last c) and table 2 (first d, no last).

@@ -4,9 +4,10 @@ use crate::call::{hexadecimal, Call, Question};
 use oracle::answers::commits::{self, Deeds};
 use oracle::answers::images::{at, effective, listing};
 use oracle::answers::lookups::{self, Joint};
+use oracle::answers::plans;
 use oracle::answers::ranges::{value, Sided, Value};
 use oracle::checks::{check_image, key_places, read_range, Checked, PlacedRun, Stop};
-use oracle::inputs::range_image;
+use oracle::inputs::{anchors, plan, range_image};
 use oracle::{key_of, kind_of, Bound, Range};
 
 /// Bytes of an answer, of which some stand for nothing.
@@ -97,6 +98,7 @@ pub fn expected(question: &Question) -> Expected {
             let bytes = commits::answer(&question.case(), &mut Deeds::default())?;
             Ok(wrote(bytes))
         }
+        call if call.is_of_plans() => expected_plan(&plans::value(&question.plan_case()), question),
         call if call > Call::Commit => {
             let known = lookups::value(&question.a, &question.asked());
             expected_lookup(&known, question)
@@ -189,6 +191,15 @@ fn supplied(joint: &Joint) -> Bytes {
         answer.push_place(&end.bound, end.place);
     }
     answer
+}
+
+/// Of a call that samples or plans whose answer with room enough is known.
+pub fn expected_plan(known: &Checked<plans::Value>, question: &Question) -> Expected {
+    let bytes = match known.as_ref().map_err(|stop| *stop)? {
+        plans::Value::Anchors(list) => anchors(list),
+        plans::Value::Plan(ranges) => plan(ranges),
+    };
+    fits(plain(bytes), question.room)
 }
 
 /// Of a call on an image that was checked.

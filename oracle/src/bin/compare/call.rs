@@ -1,6 +1,7 @@
 //! The public calls, and what they are asked.
 use oracle::answers::commits::Case;
 use oracle::answers::lookups::{Asked, VISIBLE_FRACTION};
+use oracle::answers::plans;
 use oracle::answers::ranges::{self, Input};
 
 #[derive(Clone, Copy, Debug, PartialEq, Eq, PartialOrd, Ord)]
@@ -33,10 +34,13 @@ pub enum Call {
     VisibleFraction,
     EstimateVisibleSize,
     EstimateRunVisibleSize,
+    SampleAnchors,
+    SelectBoundaries,
+    PlanSubcompactionRanges,
 }
 
 impl Call {
-    pub const ALL: [Call; 28] = [
+    pub const ALL: [Call; 31] = [
         Call::Compare,
         Call::CmpBound,
         Call::NonEmpty,
@@ -65,6 +69,9 @@ impl Call {
         Call::VisibleFraction,
         Call::EstimateVisibleSize,
         Call::EstimateRunVisibleSize,
+        Call::SampleAnchors,
+        Call::SelectBoundaries,
+        Call::PlanSubcompactionRanges,
     ];
 
     pub fn name(self) -> &'static str {
@@ -97,6 +104,9 @@ impl Call {
             Call::VisibleFraction => "visible_fraction",
             Call::EstimateVisibleSize => "estimate_visible_size",
             Call::EstimateRunVisibleSize => "estimate_run_visible_size",
+            Call::SampleAnchors => "sample_anchors",
+            Call::SelectBoundaries => "select_boundaries",
+            Call::PlanSubcompactionRanges => "plan_subcompaction_ranges",
         }
     }
 
@@ -118,12 +128,23 @@ impl Call {
         if self.is_of_sizes() {
             return Some(VISIBLE_FRACTION + (self as u8 - Call::VisibleFraction as u8));
         }
-        (self > Call::Commit).then(|| self as u8 - Call::Commit as u8)
+        let is_lookup = self > Call::Commit && !self.is_of_plans();
+        is_lookup.then(|| self as u8 - Call::Commit as u8)
     }
 
     /// Whether it asks for a visible fraction or size.
     pub fn is_of_sizes(self) -> bool {
-        self >= Call::VisibleFraction
+        (Call::VisibleFraction..=Call::EstimateRunVisibleSize).contains(&self)
+    }
+
+    /// Whether it samples or plans.
+    pub fn is_of_plans(self) -> bool {
+        self >= Call::SampleAnchors
+    }
+
+    /// A call that samples or plans, by its number from 1 on.
+    pub fn of_plans(number: u8) -> Call {
+        Call::ALL[usize::from(Call::EstimateRunVisibleSize as u8 + number)]
     }
 
     pub fn is_in_indexes(self) -> bool {
@@ -136,7 +157,7 @@ impl Call {
         match self {
             Compare | CmpBound | NonEmpty | Contains | CheckImage => false,
             CompactedIntersection | CalculateViewRange => true,
-            other => other <= Commit,
+            other => other <= Commit || other.is_of_plans(),
         }
     }
 
@@ -163,6 +184,9 @@ impl Call {
             Call::IntersectsRange => &["image", "range", "end"],
             call if call.is_in_indexes() => &["index", "key"],
             call if call.is_of_sizes() => &["image"],
+            Call::SampleAnchors => &["index", "range"],
+            Call::SelectBoundaries => &["anchors"],
+            Call::PlanSubcompactionRanges => &["image", "indexes"],
             call if call > Call::Commit => &["image", "range"],
             _ => &["a", "b"],
         }
@@ -177,7 +201,7 @@ pub struct Question {
     pub a: Vec<u8>,
     pub b: Vec<u8>,
     pub c: Vec<u8>,
-    /// Kinds of bounds, or places of a run and a view.
+    /// Kinds of bounds, or places of a run and a view; or a setting, and the data end or the least range.
     pub x: u64,
     pub y: u64,
     /// 1 if bounds are starts, or if the test is "at or below"; the kind of an end bound.
@@ -231,6 +255,25 @@ impl Question {
             y: asked.view,
             number: asked.number,
             ..Question::new(call, buffer, b)
+        }
+    }
+
+    /// A call that samples or plans.
+    pub fn plan(case: &plans::Case) -> Question {
+        Question {
+            x: case.setting,
+            y: case.number,
+            ..Question::new(Call::of_plans(case.call), &case.first, &case.second)
+        }
+    }
+
+    pub fn plan_case(&self) -> plans::Case {
+        plans::Case {
+            call: self.call as u8 - Call::EstimateRunVisibleSize as u8,
+            setting: self.x,
+            number: self.y,
+            first: self.a.clone(),
+            second: self.b.clone(),
         }
     }
 
@@ -338,6 +381,15 @@ impl std::fmt::Display for Question {
             | Call::EstimateVisibleSize => {
                 writeln!(to, "places    run {}, view {}", self.x, self.y)?;
             }
+            Call::SampleAnchors => {
+                writeln!(to, "most      {}", self.x)?;
+                writeln!(to, "data end  {}", self.y)?;
+            }
+            Call::SelectBoundaries => {
+                writeln!(to, "parts     {}", self.x)?;
+                writeln!(to, "least     {}", self.y)?;
+            }
+            Call::PlanSubcompactionRanges => writeln!(to, "parts     {}", self.x)?,
             _ => {}
         }
         if self.call.writes() {

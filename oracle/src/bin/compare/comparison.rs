@@ -62,7 +62,9 @@ impl<'a> Comparison<'a> {
         if question.call.is_on_ranges() {
             self.tally.ranges.push(self.lent.mark);
         }
-        if question.call.is_of_sizes() {
+        if question.call.is_of_plans() {
+            self.tally.planned.push(self.lent.mark);
+        } else if question.call.is_of_sizes() {
             self.tally.sizes.push(self.lent.mark);
         } else if question.call.lookup().is_some() {
             self.tally.lookups.push(self.lent.mark);

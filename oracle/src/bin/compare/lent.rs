@@ -225,6 +225,15 @@ impl Lent {
                 Call::EstimateRunVisibleSize => {
                     bilqarush_estimate_run_visible_size(a, a_len, run, size)
                 }
+                Call::SampleAnchors => {
+                    bilqarush_sample_anchors(x as usize, y, a, a_len, b, b_len, out, room, written)
+                }
+                Call::SelectBoundaries => {
+                    bilqarush_select_boundaries(x as usize, y, a, a_len, out, room, written)
+                }
+                Call::PlanSubcompactionRanges => bilqarush_plan_subcompaction_ranges(
+                    x as usize, a, a_len, b, b_len, out, room, written,
+                ),
             }
         };
     }

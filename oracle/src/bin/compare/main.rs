@@ -11,6 +11,7 @@ mod images;
 mod lent;
 mod lists;
 mod lookups;
+mod plans;
 mod ranges;
 mod report;
 mod selftest;
@@ -32,6 +33,7 @@ fn compare(seed: u64, full: bool) -> ExitCode {
     ranges::add(&mut shards, full);
     lookups::add(&mut shards, full);
     sizes::add(&mut shards, full);
+    plans::add(&mut shards, full);
     let (tally, difference) = shards.run(None, true);
     println!("seed {seed}, {}", if full { "full" } else { "quick" });
     tally.print();

@@ -8,7 +8,7 @@ use crate::lists::{committed_alone, list_fault};
 use crate::shards::Shards;
 use crate::shrink::smallest;
 use crate::wrong::{Kind, When, Wrong, KINDS};
-use crate::{commits, images, lookups, ranges, sizes};
+use crate::{commits, images, lookups, plans, ranges, sizes};
 use oracle::answers::commits::Case;
 use oracle::guarded;
 use std::panic::{catch_unwind, AssertUnwindSafe};
@@ -21,6 +21,7 @@ fn shards_of(call: Call, seed: u64) -> Shards {
         Call::Commit => commits::add(&mut shards, false),
         call if call.is_on_ranges() => ranges::add(&mut shards, false),
         call if call.is_of_sizes() => sizes::add(&mut shards, false),
+        call if call.is_of_plans() => plans::add(&mut shards, false),
         call if call.lookup().is_some() => lookups::add(&mut shards, false),
         _ => images::add(&mut shards, false),
     }
@@ -80,6 +81,7 @@ fn single_inputs(seed: u64) -> Vec<(Call, bool)> {
         Call::Commit,
         Call::PartitionPoint,
         Call::VisibleFraction,
+        Call::SampleAnchors,
     ] {
         let (tally, _) = shards_of(group, seed).run(None, false);
         found.extend(tally.picked.into_iter().map(|(call, mark)| {
@@ -119,7 +121,7 @@ pub fn run(seed: u64) -> bool {
         "each byte that a list leaves".into(),
     );
     // A view without keys has 60 bytes, a run's head 6. A commit needs a job besides. A block has 10
-    // bytes and its first key; a lookup needs a range besides.
+    // bytes and its first key, an anchor too; a lookup needs a range besides.
     for (call, length, most) in [
         (Call::Compare, 3, 3),
         (Call::Contains, 4, 4),
@@ -132,6 +134,9 @@ pub fn run(seed: u64) -> bool {
         (Call::CompactedIntersection, 128, 130),
         (Call::VisibleFraction, 68, 70),
         (Call::EstimateRunVisibleSize, 128, 130),
+        (Call::SampleAnchors, 23, 24),
+        (Call::SelectBoundaries, 23, 24),
+        (Call::PlanSubcompactionRanges, 68, 72),
     ] {
         let wrong = Wrong {
             call,

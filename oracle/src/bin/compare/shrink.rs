@@ -2,9 +2,12 @@
 use crate::call::{Call, Question};
 use crate::comparison::find;
 use crate::lent::Lent;
-use oracle::checks::{read_image, read_index, read_job, read_range, runs_of};
-use oracle::inputs::{image, range_image, write_index, write_job};
-use oracle::{key_of, Block, Bound, Job, Key, Range, Run, Table};
+use oracle::checks::{
+    read_anchors, read_image, read_index, read_indexes, read_job, read_range, runs_of,
+};
+use oracle::inputs::plans::end_to_end;
+use oracle::inputs::{anchors, image, range_image, write_index, write_job};
+use oracle::{key_of, Block, Bound, Index, Job, Key, Range, Run, Table};
 use std::time::Instant;
 
 /// No more than so many inputs are tried, for no longer than so many seconds.
@@ -51,6 +54,8 @@ fn smaller(question: &Question) -> Vec<Question> {
     };
     let as_values = match question.call {
         call if call.is_in_indexes() => smaller_indexes(&question.a),
+        Call::SampleAnchors => smaller_indexes(&question.a),
+        Call::SelectBoundaries => smaller_anchors(&question.a),
         call if call.is_on_ranges() => smaller_ranges(&question.a),
         _ => smaller_images(&question.a),
     };
@@ -64,6 +69,14 @@ fn smaller(question: &Question) -> Vec<Question> {
     };
     for bytes in as_values {
         list.push(with(&|other| other.b.clone_from(&bytes)));
+    }
+    if question.call == Call::PlanSubcompactionRanges {
+        for (a, b) in smaller_plans(&question.a, &question.b) {
+            list.push(with(&|other| {
+                other.a.clone_from(&a);
+                other.b.clone_from(&b);
+            }));
+        }
     }
     for bytes in smaller_bytes(&question.a) {
         list.push(with(&|other| other.a.clone_from(&bytes)));
@@ -260,6 +273,58 @@ fn smaller_indexes(bytes: &[u8]) -> Vec<Vec<u8>> {
         with(Block { offset: 0, first });
     }
     list.iter().map(|blocks| write_index(blocks).0).collect()
+}
+
+fn smaller_anchors(bytes: &[u8]) -> Vec<Vec<u8>> {
+    let Ok(given) = read_anchors(bytes) else {
+        return vec![];
+    };
+    let mut list = without(&given);
+    for (at, (key, bytes)) in given.iter().enumerate().take(20) {
+        let mut with = |anchor: (Key, u64)| {
+            let mut other = given.clone();
+            other[at] = anchor;
+            list.push(other);
+        };
+        for key in smaller_keys(key) {
+            with((key, *bytes));
+        }
+        for bytes in [0, *bytes / 2] {
+            with((key.clone(), bytes));
+        }
+    }
+    list.iter().map(|list| anchors(list)).collect()
+}
+
+/// Without some views and their indexes; with smaller indexes.
+fn smaller_plans(image_bytes: &[u8], bytes: &[u8]) -> Vec<(Vec<u8>, Vec<u8>)> {
+    let Ok(runs) = read_image(image_bytes) else {
+        return vec![];
+    };
+    let runs = runs_of(runs);
+    let views: usize = runs.iter().map(|run| run.views.len()).sum();
+    let Ok(indexes) = read_indexes(bytes, views) else {
+        return vec![];
+    };
+    let mut list = vec![];
+    for kept in without(&(0..views).collect::<Vec<_>>()) {
+        let mut places = 0..;
+        let mut runs = runs.clone();
+        for run in &mut runs {
+            run.views.retain(|_| kept.contains(&places.next().unwrap()));
+        }
+        runs.retain(|run| !run.views.is_empty());
+        let indexes: Vec<Index> = kept.iter().map(|at| indexes[*at].clone()).collect();
+        list.push((image(&runs), end_to_end(&indexes)));
+    }
+    for (at, index) in indexes.iter().enumerate().take(20) {
+        let front = end_to_end(&indexes[..at]);
+        let back = end_to_end(&indexes[at + 1..]);
+        for smaller in smaller_indexes(&write_index(index).0) {
+            list.push((image_bytes.to_vec(), [&front[..], &smaller, &back].concat()));
+        }
+    }
+    list
 }
 
 fn smaller_jobs(bytes: &[u8]) -> Vec<Vec<u8>> {

@@ -13,6 +13,13 @@ pub struct Tally {
     pub commits: Vec<u64>,
     pub lookups: Vec<u64>,
     pub sizes: Vec<u64>,
+    /// The same of the calls that sample or plan.
+    pub planned: Vec<u64>,
+    /// Marks of the plans that were answered, whatever the lent buffer; how many of them have several
+    /// ranges, and how many have more bytes than an image may.
+    pub plans: Vec<u64>,
+    pub split: u64,
+    pub long: u64,
     /// Marks of the views whose fractions were compared, whatever image they are in.
     pub views: Vec<u64>,
     /// How many of them are shown in part.
@@ -55,6 +62,10 @@ impl Tally {
         self.lookups.append(&mut more.lookups);
         self.sizes.append(&mut more.sizes);
         self.views.append(&mut more.views);
+        self.planned.append(&mut more.planned);
+        self.plans.append(&mut more.plans);
+        self.split += more.split;
+        self.long += more.long;
         self.parts += more.parts;
         self.listed += more.listed;
         self.lists += more.lists;
@@ -96,6 +107,14 @@ impl Tally {
         println!(
             "visible fractions of {all} views, {views} of them distinct by keys and raw size; {} are parts",
             self.parts
+        );
+        let (all, planned) = (self.planned.len(), distinct(&mut self.planned));
+        println!("samples and plans: {all} inputs, {planned} of them distinct");
+        let (all, plans) = (self.plans.len(), distinct(&mut self.plans));
+        println!(
+            "plans: {all} answered, {plans} of them distinct (whatever the lent buffer); {} have several \
+             ranges, {} over 65,536 bytes",
+            self.split, self.long
         );
     }
 

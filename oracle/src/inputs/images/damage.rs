@@ -159,7 +159,7 @@ fn harm_number(bytes: &mut [u8], marks: &[Mark], chance: &mut Chance) {
             let field = mark.field;
             matches!(field, RunCount | ViewCount | LastFlag | VisibleFlag | Head)
                 || matches!(field, FirstLength | LastLength | StartLength | EndLength)
-                || field == BlockCount
+                || matches!(field, BlockCount | AnchorCount | KeyLength)
         })
         .collect();
     let mark = **chance.of(&numbers);
@@ -175,7 +175,7 @@ fn harm_number(bytes: &mut [u8], marks: &[Mark], chance: &mut Chance) {
             bytes[mark.at..mark.at + 2].copy_from_slice(&count);
         }
         Field::BlockCount => {
-            let count = u16::from_be_bytes([bytes[0], bytes[1]]);
+            let count = u16::from_be_bytes([bytes[mark.at], bytes[mark.at + 1]]);
             let count = *chance.of(&[
                 0,
                 1,
@@ -184,7 +184,13 @@ fn harm_number(bytes: &mut [u8], marks: &[Mark], chance: &mut Chance) {
                 6_553,
                 u16::MAX,
             ]);
-            bytes[..2].copy_from_slice(&count.to_be_bytes());
+            bytes[mark.at..mark.at + 2].copy_from_slice(&count.to_be_bytes());
+        }
+        Field::AnchorCount => {
+            let count = u16::from_be_bytes([bytes[0], bytes[1]]);
+            let more = count.wrapping_add(1);
+            let counts = [0, 1, count.wrapping_sub(1), more, 4_096, 4_097, u16::MAX];
+            bytes[..2].copy_from_slice(&chance.of(&counts).to_be_bytes());
         }
         Field::LastFlag | Field::VisibleFlag => {
             bytes[mark.at] ^= *chance.of(&[0x80, 0x80, 0x01, 0x40, 0x20]);

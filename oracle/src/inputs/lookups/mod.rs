@@ -11,10 +11,10 @@ mod views;
 
 pub use ceilings::ceilings;
 pub use damage::{damage, damaged_ranges};
-pub use faults::{faults_of_images, faults_of_indexes};
+pub use faults::{faults_of_images, faults_of_indexes, order_indexes};
 pub use lists::lists;
 pub use papers::from_the_papers;
-pub use random::{random_images, random_indexes};
+pub use random::{random_images, random_indexes, Near};
 pub use views::{few_views, one_view, places};
 
 use super::{range_image, Chance};

@@ -1,0 +1,6 @@
+pub mod KeyParts
+pub mod PlanBytes
+pub mod PlanPut
+pub mod Ordered
+pub mod Walking
+pub mod Choosing

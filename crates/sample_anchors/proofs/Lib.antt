@@ -1,0 +1,2 @@
+pub mod PutExits
+pub mod CallExits

@@ -1,0 +1,4 @@
+pub mod SampleSizes
+pub mod GroupExits
+pub mod HeldRows
+pub mod SampleExits

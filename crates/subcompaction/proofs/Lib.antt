@@ -1,0 +1,9 @@
+pub mod Samples
+pub mod Boundaries
+pub mod Ranges
+pub mod OneRange
+pub mod ReachedKeys
+pub mod KeysRead
+pub mod PlanAnswers
+pub mod SampleAnswers
+pub mod PlanExamples

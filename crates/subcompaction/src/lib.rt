@@ -1,0 +1,1 @@
+// The planner of subcompaction.rs: anchors, boundaries, ranges.
