@@ -394,7 +394,7 @@ uint8_t bilqarush_estimate_run_visible_size(const uint8_t *image, size_t image_l
  * for. The blocks go in groups of one size, the last maybe shorter: of as few blocks as make at most `most` groups. A
  * group's anchor has its first block's first key, and the bytes from that block's offset to the next group's, of the last
  * group to data_end; none where the later offset is the lesser. The anchors whose key the range holds are answered. `most`
- * is 0 to 4,096, and 0 acts as 1; data_end has no ceiling.
+ * is 0 to 4,096, and 0 acts as 1; data_end has no ceiling. The call takes about 70 KB of stack.
  * Writes an anchors image.
  * Stops: 3 if most is over 4,096; the fields of index (1 and 3 alone), then of range; 4; 6; 16.
  */
@@ -408,7 +408,8 @@ uint8_t bilqarush_sample_anchors(size_t most, uint64_t data_end, const uint8_t *
  * through in the order of their keys, those of equal keys as they are given. An anchor's key is a boundary once the bytes
  * of those before it reach the target times one more than the boundaries so far, if it exceeds the smallest anchor key and
  * the boundary before it and there are fewer than parts - 1 yet. Each range but the last ends excluded at a boundary,
- * where the next starts included. `parts` is 0 to 64, and 0 acts as 1; least has no ceiling.
+ * where the next starts included. `parts` is 0 to 64, and 0 acts as 1; least has no ceiling. The call takes about 220 KB of
+ * stack.
  * Writes a plan.
  * Stops: 3 if parts is over 64; the fields of anchors (1 and 3 alone); 7; 16.
  */
@@ -419,7 +420,8 @@ uint8_t bilqarush_select_boundaries(size_t parts, uint64_t least, const uint8_t 
  * The ranges in which the views of an image are compacted: those of bilqarush_select_boundaries for the anchors of all
  * views, with the largest raw size (index_offset + index_len) as `least`. `indexes` has one index for each view, in image
  * order, laid end to end. Of a view's table 128 anchors at most are sampled, as in bilqarush_sample_anchors: the data end
- * at its filter_offset, and the range is the view's effective range. `parts` is 0 to 64, and 0 acts as 1.
+ * at its filter_offset, and the range is the view's effective range. `parts` is 0 to 64, and 0 acts as 1. The call takes
+ * about 220 KB of stack.
  * Writes a plan.
  * Stops: 3 if parts is over 64; the fields of image, then of indexes (1 and 3 alone); 4; 5; 6, of the image or within one
  * index; 7, of a raw size or of the total of the sampled anchors; 15 if over 4,096 anchors are sampled; 16.
