@@ -408,7 +408,7 @@ uint8_t bilqarush_sample_anchors(size_t most, uint64_t data_end, const uint8_t *
  * through in the order of their keys, those of equal keys as they are given. An anchor's key is a boundary once the bytes
  * of those before it reach the target times one more than the boundaries so far, if it exceeds the smallest anchor key and
  * the boundary before it and there are fewer than parts - 1 yet. Each range but the last ends excluded at a boundary,
- * where the next starts included. `parts` is 0 to 64, and 0 acts as 1; least has no ceiling. The call takes about 220 KB of
+ * where the next starts included. `parts` is 0 to 64, and 0 acts as 1; least has no ceiling. The call takes about 200 KB of
  * stack.
  * Writes a plan.
  * Stops: 3 if parts is over 64; the fields of anchors (1 and 3 alone); 7; 16.
@@ -421,7 +421,7 @@ uint8_t bilqarush_select_boundaries(size_t parts, uint64_t least, const uint8_t 
  * views, with the largest raw size (index_offset + index_len) as `least`. `indexes` has one index for each view, in image
  * order, laid end to end. Of a view's table 128 anchors at most are sampled, as in bilqarush_sample_anchors: the data end
  * at its filter_offset, and the range is the view's effective range. `parts` is 0 to 64, and 0 acts as 1. The call takes
- * about 220 KB of stack.
+ * about 200 KB of stack.
  * Writes a plan.
  * Stops: 3 if parts is over 64; the fields of image, then of indexes (1 and 3 alone); 4; 5; 6, of the image or within one
  * index; 7, of a raw size or of the total of the sampled anchors; 15 if over 4,096 anchors are sampled; 16.

@@ -51,7 +51,7 @@ pub fn sample_anchors<'o>(
 /// as they are given. An anchor's key is a boundary once the bytes of those before it reach the target times one more than
 /// the boundaries so far, if it exceeds the smallest anchor key and the boundary before it and there are fewer than
 /// `parts` - 1 yet. Each range but the last ends excluded at a boundary, where the next starts included. `parts` is 0 to 64,
-/// and 0 acts as 1. The call takes about 220 KB of stack.
+/// and 0 acts as 1. The call takes about 200 KB of stack.
 ///
 /// Stops: 3 if `parts` is over 64; 3 (length), 1 and 3 in the fields of `anchors`; 7; 16. [`PLAN_LEN`](crate::PLAN_LEN)
 /// bytes of `out` are always enough.
@@ -89,7 +89,7 @@ pub fn select_boundaries<'o>(
 /// are those of [`select_boundaries`] for the anchors of all views, with the largest raw size (`index_offset` + `index_len`)
 /// as `least`. `indexes` has one index for each view, in image order, laid end to end. Of a view's table 128 anchors at most
 /// are sampled, as in [`sample_anchors`]: the data end at its `filter_offset`, and the range is the view's effective range.
-/// `parts` is 0 to 64, and 0 acts as 1. The call takes about 220 KB of stack.
+/// `parts` is 0 to 64, and 0 acts as 1. The call takes about 200 KB of stack.
 ///
 /// Stops: 3 if `parts` is over 64; 3 (length), 1 to 3 in the fields of `image`, then 1 and 3 of `indexes`; 4; 5; 6, of the
 /// image or within one index; 7, of a raw size or of the total of the sampled anchors; 15 if over 4,096 anchors are sampled;

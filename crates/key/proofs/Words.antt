@@ -12,7 +12,7 @@ use lib.ListN.{length, getD, take, drop, length-take, length-drop}
 use lib.Seq.{take-take, take-add, take-suc}
 use Rattle.base.specs.Bytes.{bytes-drop, bytes-take}
 use Rattle.key.specs.Order.{cmpKey, cmpNumber, orElse}
-use Rattle.key.specs.Word.{WordAt, reversed, ReversedAt, Agree, Further}
+use Rattle.key.specs.Word.{WordAt, ReversedAt, Agree, Further}
 use Rattle.key.specs.declared.Order.{Order}
 use Rattle.key.proofs.Linear.{number-less, number-greater, key-self, key-order-is-total}
 use Rattle.key.proofs.Digits.{Compared, compared, below, same, above, orElse-assoc, number-self, digits-order, reversed-equal}
@@ -126,15 +126,14 @@ module _ {a b : List ℕ} {i n x y : ℕ}
     (p : Agree a b i)
     (m : n ≡ min (length a) (length b))
     (h : i < n - 8)
-    (w : ReversedAt a i x)
-    (z : ReversedAt b i y)
+    (w : WordAt a i x)
+    (z : WordAt b i y)
   where
-    pub turn-differ : {u v : ℕ} {r : Order} → x ≢ y → WordAt a i u → WordAt b i v → r ≡ cmpNumber u v → r ≡ cmpKey a b
-    turn-differ d s t e =
-        differ p m (omega arith) s t (λ q. d (w .value ∙ ap reversed (same-bytes p m (omega arith) s t q) ∙ sym (z .value))) e
+    pub turn-differ : {r : Order} → x ≢ y → r ≡ cmpNumber x y → r ≡ cmpKey a b
+    turn-differ d e = differ p m (omega arith) w z d e
 
     pub turn-same : x ≡ y → Agree a b (i + 8)
-    turn-same e = eight-more p (omega arith) (omega arith) w z e
+    turn-same e = onward p (omega arith) (omega arith) (same-bytes p m (omega arith) w z e)
 
 -- the shorter key has ended: the lengths decide
 lengths :

@@ -138,10 +138,10 @@ pub fn cmp(a: &[u8], b: &[u8]) -> Order
     }
     let mut i = agreed(a, b, n);
     while i < n - 8 {
-        let x = reversed(a, i);
-        let y = reversed(b, i);
+        let x = word(a, i);
+        let y = word(b, i);
         if x != y {
-            return cmp_number(word(a, i), word(b, i));
+            return cmp_number(x, y);
         }
         i += 8;
     }

@@ -23,9 +23,8 @@ use Rattle.records.specs.Layouts.{image, index, plan}
 use Rattle.manifest.specs.Checks.{Checks, checked, joined, all, sizePasses, total, imageChecks, indexChecks}
 use Rattle.manifest.specs.Faults.{faultOf, least, ordered}
 use Rattle.manifest.specs.Spans.{sizeFits}
-use Rattle.manifest.specs.declared.images.Judged.the-variants.{At as JudgedAt, Stop as JudgedStop}
 use Rattle.manifest.proofs.Steps.{least-joined, fault-stops, fault-passes}
-use Rattle.sorted_keys.specs.Rows.{Rows}
+use Rattle.key_rows.specs.Rows.{Rows}
 use Rattle.subcompaction.specs.Boundaries.{selectBoundaries}
 use Rattle.subcompaction.specs.PlanCalls.{views, sampled, largestSize, planSubcompactionRanges, sampledChecks, rangesPlanned, planSubcompactionRangesOutcome}
 use Rattle.subcompaction.specs.Tables.{anchorsIn}
@@ -195,9 +194,6 @@ module _ {fault : ℕ} (s m : List ℕ) (hi : ImageJudged s fault) {keys₀ keys
 
       pub bytes-inside : w .kept .rows ≤ length bytes
       bytes-inside = omega (arith, rows-inside, found .held .wide)
-
-      pub order-inside : (order : List ℕ) → length order ≡ length keys₀ → w .kept .rows ≤ length order
-      order-inside order e = omega (arith, x .rows, rows-inside)
 
       anchors-are : anchorsIn m keys bytes (w .kept .rows) ≡ sampled (views (given s)) (indexes s m)
       anchors-are =

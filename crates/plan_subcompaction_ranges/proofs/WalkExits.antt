@@ -30,7 +30,7 @@ use Rattle.manifest.specs.declared.images.Judged.the-variants.{At as JudgedAt, 
 use Rattle.manifest.proofs.ImageExits.{judge-stop}
 use Rattle.subcompaction.specs.PlanCalls.{views, sampled}
 use Rattle.subcompaction.specs.Tables.{anchorsIn, Held}
-use Rattle.sorted_keys.specs.Rows.{countFrom}
+use Rattle.key_rows.specs.Rows.{countFrom}
 use Rattle.plan_subcompaction_ranges.specs.Walks.{RunViews, runViews, indexesRead, largestPassing, Sampled, SampledSome, IndexNext, WithView, SampledAll, SampledMore, ViewsPast}
 use Rattle.plan_subcompaction_ranges.specs.declared.SoFar.{SoFar}
 use Rattle.plan_subcompaction_ranges.specs.declared.Walked.the-variants.{All, Stop as WalkedStop}

@@ -5,7 +5,8 @@ use manifest::Judged;
 use manifest::lesser;
 use manifest::size_passes;
 use planned::Asked;
-use planned::planned;
+use planned::planned_few;
+use planned::planned_many;
 use records::RunSpan;
 use records::ViewSpan;
 use sampled::Kept;
@@ -194,11 +195,10 @@ fn plan_sampled(
     indexes: &[u8],
     keys: &mut [usize],
     bytes: &mut [u64],
-    order: &mut [usize],
     out: &mut [u8],
 ) -> Written
     requires { ⌜ parts ≤ 64 ⌝ ∗ ⌜ ImageJudged (now given) fault ⌝ ∗ ⌜ length (now indexes) ≤ 65536 ⌝ }
-    requires { ⌜ RowsEnough (now indexes) (now keys) ⌝ ∗ ⌜ length (now bytes) ≡ length (now keys) ⌝ ∗ ⌜ length (now order) ≡ length (now keys) ⌝ }
+    requires { ⌜ RowsEnough (now indexes) (now keys) ⌝ ∗ ⌜ length (now bytes) ≡ length (now keys) ⌝ }
     ensures { λ r. ⌜ r ≡ reported (planSubcompactionRangesOutcome parts (now (given .entry)) (now (indexes .entry)) (length (now (out .entry)))) ⌝ }
     ensures { λ r. ⌜ now (out .exit) ≡ lent (now (out .entry)) (planSubcompactionRangesOutcome parts (now (given .entry)) (now (indexes .entry)) (length (now (out .entry)))) ⌝ }
 {
@@ -215,7 +215,10 @@ fn plan_sampled(
                 least: w.largest,
                 total: kept.total,
             };
-            planned(indexes, keys, bytes, kept.rows, order, ask, out)
+            if kept.rows <= 64 {
+                return planned_few(indexes, keys, bytes, kept.rows, ask, out);
+            }
+            planned_many(indexes, keys, bytes, kept.rows, ask, out)
         }
     }
 }
@@ -230,31 +233,11 @@ fn plan_judged(parts: usize, given: &[u8], fault: u8, indexes: &[u8], out: &mut 
     if indexes.len() <= 640 {
         let mut keys = [0usize; 64];
         let mut bytes = [0u64; 64];
-        let mut order = [0usize; 64];
-        return plan_sampled(
-            parts,
-            given,
-            fault,
-            indexes,
-            &mut keys,
-            &mut bytes,
-            &mut order,
-            out,
-        );
+        return plan_sampled(parts, given, fault, indexes, &mut keys, &mut bytes, out);
     }
     let mut keys = [0usize; 4096];
     let mut bytes = [0u64; 4096];
-    let mut order = [0usize; 4096];
-    plan_sampled(
-        parts,
-        given,
-        fault,
-        indexes,
-        &mut keys,
-        &mut bytes,
-        &mut order,
-        out,
-    )
+    plan_sampled(parts, given, fault, indexes, &mut keys, &mut bytes, out)
 }
 
 // Ranges for a number of parts, from an image and its index images.

@@ -2,23 +2,26 @@
 -- Assumes nothing.
 use Prim.Native.Nat.{ℕ, _<_, _≤_, _^_}
 use native.Mathlib.Omega.{arith}
+use native.Mathlib.Nat.{eq-zero-or-pos}
 use mathlib.Core.Path.{_≡_, refl, sym, ap, _∙_}
-use mathlib.Core.Bool.{Bool, true, false, _||_}
-use mathlib.Core.List.{List, _++_}
-use lib.ListN.{length, drop, length-append}
+use mathlib.Core.Logic.{inl, inr}
+use mathlib.Core.Bool.{Bool, true, false, _||_, true≢false}
+use mathlib.Core.List.{List}
+use lib.ListN.{length}
 use lib.Dec.{leb, eqb}
-use borrow.Author.Tests.{le-leb, lt-leb, eq-eqb, ne-eqb}
+use borrow.Author.Tests.{le-leb, lt-leb, eq-eqb, ne-eqb, leb-true, leb-false}
 use Rattle.base.specs.Outcome.{reported, lent, writtenTo}
+use Rattle.base.specs.SortLaws.{decided}
 use Rattle.base.specs.declared.Written.{Written}
 use Rattle.key.specs.Order.{Key}
 use Rattle.records.specs.Values.{Anchors}
 use Rattle.records.specs.Layouts.{plan}
 use Rattle.manifest.specs.Checks.{total}
-use Rattle.sorted_keys.specs.Rows.{Rows, inOrder}
+use Rattle.key_rows.specs.Rows.{Rows}
+use Rattle.key_rows.proofs.RowLaws.{rows-none}
 use Rattle.subcompaction.specs.Boundaries.{target, unsplit, prepared, boundaries, chosen, selectBoundaries}
-use Rattle.planned.specs.Marks.{markedKeys, Marked, planBytes}
-use Rattle.planned.proofs.Ordered.{order-length, sorted-rows}
-use Rattle.planned.proofs.Walking.{rows-none}
+use Rattle.planned.proofs.Ordered.{sorted-rows, sorted-room}
+use Rattle.planned.specs.Marks.{goalOf, markedKeys, Marked, planBytes}
 
 or-true : (a : Bool) → (a || true) ≡ true
 or-true true = refl
@@ -41,47 +44,100 @@ module _ (parts goal bytes : ℕ) where
   unfolding unsplit
   split h z l = rw (lt-leb parts 1 h, ne-eqb goal 0 z, lt-leb bytes goal l)
 
-module _ (s marks : List ℕ) (parts least : ℕ) (as′ : Anchors) where
-  none : unsplit parts (target parts least (total as′)) (total as′) ≡ true → Marked s marks 0 (chosen parts least as′)
-  unfolding chosen
-  none e = record { few = omega arith; there = rows-none s marks; keys = rw e }
+-- ---- goal_bytes
+module _ (parts least bytes : ℕ) where
+  one : unsplit parts (target parts least bytes) bytes ≡ true → 0 ≡ goalOf parts least bytes
+  unfolding goalOf
+  one e = rw e
 
-  pub one-part : parts ≤ 1 → Marked s marks 0 (chosen parts least as′)
-  one-part h = none (unsplit-parts parts (target parts least (total as′)) (total as′) h)
+  pub one-part : parts ≤ 1 → 0 ≡ goalOf parts least bytes
+  one-part h = one (unsplit-parts parts (target parts least bytes) bytes h)
 
-  module _ {goal bytes : ℕ} (e : bytes ≡ total as′) (g : goal ≡ target parts least bytes) where
-    is : goal ≡ target parts least (total as′)
-    is = g ∙ ap (target parts least) e
+  module _ {goal : ℕ} (g : goal ≡ target parts least bytes) where
+    pub wide-target : bytes ≤ goal → 0 ≡ goalOf parts least bytes
+    wide-target h = one (unsplit-wide parts (target parts least bytes) bytes (omega (arith, g)))
 
-    pub no-target : goal ≡ 0 → Marked s marks 0 (chosen parts least as′)
-    no-target z = none (unsplit-none parts (target parts least (total as′)) (total as′) (sym is ∙ z))
+    not-one : unsplit parts (target parts least bytes) bytes ≡ false → goal ≡ goalOf parts least bytes
+    unfolding goalOf
+    not-one e = rw e g
 
-    pub wide-target : bytes ≤ goal → Marked s marks 0 (chosen parts least as′)
-    wide-target h = none (unsplit-wide parts (target parts least (total as′)) (total as′) (omega (arith, is, e)))
-
-    chosen-is : 1 < parts → (goal ≡ 0 → ⊥) → goal < bytes → boundaries parts goal (prepared as′) ≡ chosen parts least as′
-    unfolding chosen
-    chosen-is h z l = rw (← is, split parts goal (total as′) h z (omega (arith, e)))
-
-    pub split-marked : {count : ℕ} → 1 < parts → (goal ≡ 0 → ⊥) → goal < bytes → Marked s marks count (boundaries parts goal (prepared as′)) → Marked s marks count (chosen parts least as′)
-    split-marked h z l m = record { few = m .few; there = m .there; keys = m .keys ∙ chosen-is h z l }
+    pub narrow-target : 1 < parts → goal < bytes → goal ≡ goalOf parts least bytes
+    narrow-target h l = elim (eq-zero-or-pos goal) [
+      | inl z ↦ z ∙ one (unsplit-none parts (target parts least bytes) bytes (sym g ∙ z))
+      | inr z ↦ not-one (split parts (target parts least bytes) bytes h (λ q. omega (arith, g)) (omega (arith, g)))
+    ]
 
 pub some-part : {parts : ℕ} → 1 < parts → 0 < parts
 some-part h = omega arith
 
-pub goal-below : {goal bytes : ℕ} → goal < bytes → bytes < 2 ^ 63 → goal < 2 ^ 63
-goal-below h l = omega arith
+pub ruleset goal-exits = (one-part, wide-target, narrow-target, some-part)
+
+-- ---- choose_few and choose_many
+-- there is a goal where more than one range may be chosen
+pub record Splits (parts least bytes goal : ℕ) : Type 0 where
+  pub is : goal ≡ target parts least bytes
+  pub not-one : unsplit parts goal bytes ≡ false
+
+splits : (parts least bytes : ℕ) {goal : ℕ} → goal ≡ goalOf parts least bytes → (goal ≡ 0 → ⊥) → Splits parts least bytes goal
+unfolding goalOf
+splits parts least bytes {goal} g z = elim (decided (unsplit parts (target parts least bytes) bytes)) [
+  | inl e ↦ absurd (z (g ∙ rw e))
+  | inr e ↦ let q : goal ≡ target parts least bytes = g ∙ rw e in record { is = q; not-one = rw q e }
+]
+
+no-goal : (parts least bytes : ℕ) → 0 ≡ goalOf parts least bytes → unsplit parts (target parts least bytes) bytes ≡ true
+unfolding goalOf
+no-goal parts least bytes g = elim (decided (unsplit parts (target parts least bytes) bytes)) [
+  | inl e ↦ e
+  | inr e ↦ unsplit-none parts (target parts least bytes) bytes (sym (g ∙ rw e))
+]
+
+module _ {parts least bytes goal : ℕ} (p : Splits parts least bytes goal) where
+  several : 1 < parts
+  several = elim (decided (leb parts 1)) [
+    | inl h ↦ absurd (true≢false (sym (unsplit-parts parts goal bytes (leb-true parts 1 h)) ∙ p .not-one))
+    | inr h ↦ leb-false parts 1 h
+  ]
+
+  below : goal < bytes
+  below = elim (decided (leb bytes goal)) [
+    | inl h ↦ absurd (true≢false (sym (unsplit-wide parts goal bytes (leb-true bytes goal h)) ∙ p .not-one))
+    | inr h ↦ leb-false bytes goal h
+  ]
+
+module _ (s marks : List ℕ) (parts least : ℕ) (as′ : Anchors) {goal bytes : ℕ} (e : bytes ≡ total as′) (g : goal ≡ goalOf parts least bytes) where
+  goal-is : goal ≡ goalOf parts least (total as′)
+  goal-is = g ∙ ap (goalOf parts least) e
+
+  pub none-chosen : goal ≡ 0 → Marked s marks 0 (chosen parts least as′)
+  unfolding chosen
+  none-chosen z =
+      let u = no-goal parts least (total as′) (sym z ∙ goal-is) in
+      record { few = omega arith; there = rows-none s marks; keys = rw u }
+
+  module _ (z : goal ≡ 0 → ⊥) where
+    several-parts : Splits parts least (total as′) goal
+    several-parts = splits parts least (total as′) goal-is z
+
+    pub part-wanted : 0 < parts
+    part-wanted = omega (arith, several several-parts)
+
+    pub goal-below : bytes < 2 ^ 63 → goal < 2 ^ 63
+    goal-below l = omega (arith, below several-parts, e)
+
+    chosen-is : boundaries parts goal (prepared as′) ≡ chosen parts least as′
+    unfolding chosen
+    chosen-is = rw (← (several-parts .is), several-parts .not-one)
+
+    pub some-chosen : {count : ℕ} → Marked s marks count (boundaries parts goal (prepared as′)) → Marked s marks count (chosen parts least as′)
+    some-chosen m = record { few = m .few; there = m .there; keys = m .keys ∙ chosen-is }
 
 pub total-below : {bytes m : ℕ} → bytes ≡ m → bytes < 2 ^ 63 → m < 2 ^ 63
 total-below e l = omega arith
 
-pub sorted-room : (s keys order : List ℕ) (n : ℕ) {f : List ℕ} → f ≡ inOrder s keys n ++ drop n order → n ≤ length order → n ≤ length f
-sorted-room s keys order n e h =
-    rw (e, length-append) (omega (arith, order-length s keys n))
+pub ruleset choose-exits = (none-chosen, part-wanted, goal-below, some-chosen, total-below, sorted-rows, sorted-room)
 
-pub ruleset choose-exits = (one-part, no-target, wide-target, split-marked, some-part, goal-below, total-below, sorted-rows, sorted-room)
-
--- ---- planned
+-- ---- planned_few and planned_many
 pub marks-few : {s marks : List ℕ} {count : ℕ} {ks : List Key} → Marked s marks count ks → count ≤ 63
 marks-few m = m .few
 

@@ -1,4 +1,4 @@
-pub mod KeyParts
+pub mod Tests
 pub mod PlanBytes
 pub mod PlanPut
 pub mod Ordered

@@ -5,7 +5,7 @@ use native.Mathlib.Omega.{arith}
 use mathlib.Core.Path.{_≡_, refl, sym, ap, _∙_}
 use mathlib.Core.Logic.{inl, inr}
 use mathlib.Core.List.{List, [], _∷_, _++_, map}
-use lib.ListN.{length, getD, take, drop}
+use lib.ListN.{length, getD, take, drop, length-append}
 use lib.Seq.{getD-take, take-at}
 use Rattle.base.specs.Lists.{All}
 use Rattle.base.specs.Sort.{insert, sort}
@@ -13,10 +13,11 @@ use Rattle.base.specs.SortLaws.{decided, All-sort, length-sort}
 use Rattle.key.specs.Order.{keyAtMost}
 use Rattle.records.specs.Values.{Anchor, Anchors}
 use Rattle.manifest.specs.Checks.{total}
-use Rattle.sorted_keys.specs.Rows.{keyAt, countFrom, inOrder}
+use Rattle.key_rows.specs.Rows.{keyAt, countFrom, inOrder}
 use Rattle.subcompaction.specs.Boundaries.{prepared}
 use Rattle.subcompaction.specs.Tables.{anchorAt, anchorsIn}
 use Rattle.base.specs.SortMore.{sort-map}
+use Rattle.key_rows.proofs.RowLaws.{length-count, all-below}
 
 pub prepared-rows : (s keys bytes : List ℕ) (n : ℕ) → prepared (anchorsIn s keys bytes n) ≡ map (anchorAt s keys bytes) (inOrder s keys n)
 unfolding prepared anchorsIn inOrder
@@ -35,19 +36,9 @@ total-prepared [] = refl
 total-prepared (a ∷ as′) = total-insert a (sort keyAtMost (λ a. a .key) as′) ∙ ap (λ n. a .bytes + n) (total-prepared as′)
 
 -- ---- the rows are the first n
-count-below : (i n m : ℕ) → i + n ≤ m → All (λ r. r < m) (countFrom i n)
-unfolding countFrom
-count-below i zero m h = tt
-count-below i (suc n) m h = (omega arith, count-below (i + 1) n m (omega arith))
-
-count-length : (i n : ℕ) → length (countFrom i n) ≡ n
-unfolding countFrom
-count-length i zero = refl
-count-length i (suc n) = ap suc (count-length (i + 1) n)
-
 pub order-length : (s keys : List ℕ) (n : ℕ) → length (inOrder s keys n) ≡ n
 unfolding inOrder
-order-length s keys n = length-sort keyAtMost (keyAt s keys) (countFrom 0 n) ∙ count-length 0 n
+order-length s keys n = length-sort keyAtMost (keyAt s keys) (countFrom 0 n) ∙ length-count 0 n
 
 at : (P : ℕ → Type 0) (l : List ℕ) → All P l → (i : ℕ) → i < length l → P (getD l i 0)
 at P [] a i h = absurd (omega arith)
@@ -56,7 +47,7 @@ at P (x ∷ l) a (suc i) h = at P l (a .1) i (omega arith)
 
 rows-below : (s keys : List ℕ) (n : ℕ) → All (λ r. r < n) (inOrder s keys n)
 unfolding inOrder
-rows-below s keys n = All-sort keyAtMost (keyAt s keys) (λ r. r < n) (countFrom 0 n) (count-below 0 n n (omega arith))
+rows-below s keys n = All-sort keyAtMost (keyAt s keys) (λ r. r < n) (countFrom 0 n) (all-below n)
 
 in-order-below : (s keys : List ℕ) (n i : ℕ) → i < n → getD (inOrder s keys n) i 0 < n
 in-order-below s keys n i h = at (λ r. r < n) (inOrder s keys n) (rows-below s keys n) i (omega (arith, order-length s keys n))
@@ -67,3 +58,6 @@ row-below s keys order n i e h = rw (sym (getD-take n order i 0 h), e) (in-order
 -- ---- after the sort
 pub sorted-rows : (s keys order : List ℕ) (n : ℕ) {f : List ℕ} → f ≡ inOrder s keys n ++ drop n order → take n f ≡ inOrder s keys n
 sorted-rows s keys order n e = rw e (take-at (inOrder s keys n) (drop n order) n (order-length s keys n))
+
+pub sorted-room : (s keys order : List ℕ) (n : ℕ) {f : List ℕ} → f ≡ inOrder s keys n ++ drop n order → n ≤ length order → n ≤ length f
+sorted-room s keys order n e h = rw (e, length-append) (omega (arith, order-length s keys n))

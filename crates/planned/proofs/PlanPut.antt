@@ -6,7 +6,7 @@ use native.Mathlib.Nat.{zero-add}
 use native.Mathlib.Numerals.{add-one}
 use mathlib.Core.Path.{_≡_, refl, sym, ap, _∙_}
 use mathlib.Core.List.{List, [], _∷_, _++_, map, append-assoc, append-nil}
-use lib.ListN.{length, getD, take, drop, length-append, length-map}
+use lib.ListN.{length, getD, drop, length-append, length-map}
 use lib.Seq.{slice, slice-cons, slice-empty, length-slice}
 use lib.Dec.{T}
 use mir.Val.{Fits}
@@ -19,12 +19,10 @@ use Rattle.comparable_range.specs.declared.Kind.the-variants.{Unbounded, Includ
 use Rattle.format.specs.Got.{isGot}
 use Rattle.format.specs.Key.{readKey, writeKey}
 use Rattle.format.specs.Range.{headByte}
-use Rattle.format.specs.There.{KeyThere}
-use Rattle.format.specs.declared.there.KeySpan.{KeySpan}
 use Rattle.format.proofs.Layouts.{key-length}
-use Rattle.sorted_keys.specs.Rows.{keyThere, Rows}
+use Rattle.key_rows.specs.Rows.{keyThere, Rows}
 use Rattle.planned.specs.Marks.{markedKeys, endKind, joint, joints, planBytes}
-use Rattle.planned.proofs.KeyParts.{part-long, key-short}
+use Rattle.key_rows.proofs.KeyParts.{key-short}
 use Rattle.planned.proofs.PlanBytes.{plan-bytes, plan-length, joint-length, joints-length}
 
 -- ---- the keys at marks
@@ -75,20 +73,20 @@ module _ {s marks : List ℕ} {n size i : ℕ} (p : Sizing s marks n size i) whe
     pub size-key : T (isGot (readKey (drop (getD marks i 0) s)))
     size-key = p .there .row i h .there
 
-    module _ {k : KeySpan} (f : KeyThere s (readKey (drop (getD marks i 0) s)) k) where
-      most : k .len ≤ 1024
-      most = omega (arith, part-long s (getD marks i 0) f, key-short s (getD marks i 0) size-key)
+    module _ {key : List ℕ} (e : key ≡ keyThere s (getD marks i 0)) where
+      most : length key ≤ 1024
+      most = rw e (key-short s (getD marks i 0) size-key)
 
-      pub size-double : Fits w64 (2 * k .len)
+      pub size-double : Fits w64 (2 * length key)
       size-double = omega (arith, most)
 
-      pub size-one : Fits w64 (5 + 2 * k .len)
+      pub size-one : Fits w64 (5 + 2 * length key)
       size-one = omega (arith, most)
 
-      pub size-fits : Fits w64 (size + (5 + 2 * k .len))
+      pub size-fits : Fits w64 (size + (5 + 2 * length key))
       size-fits = omega (arith, most, p .bound, p .few)
 
-      pub size-more : Sizing s marks n (size + (5 + 2 * k .len)) (i + 1)
+      pub size-more : Sizing s marks n (size + (5 + 2 * length key)) (i + 1)
       size-more =
           let w = rows-wide s marks n (p .there) in
           let l = rw (marked-next s marks n i w h) at (p .long) in
@@ -97,30 +95,11 @@ module _ {s marks : List ℕ} {n size i : ℕ} (p : Sizing s marks n size i) whe
             upto = omega arith;
             few = p .few;
             there = p .there;
-            long = omega (arith, l, j, part-long s (getD marks i 0) f);
+            long = omega (arith, l, j, ap length e);
             bound = omega (arith, p .bound, most);
           }
 
 pub ruleset size-exits = (size-begin, size-end, size-in, size-key, size-double, size-one, size-fits, size-more)
-
--- ---- put_key
-module _ (k : Key) {p : List ℕ} (e : p ≡ k) where
-  key-is : writeKey (p ++ take 0 p) ≡ writeKey k
-  key-is = ap writeKey (append-nil p ∙ e)
-
-  pub key-few : length k ≤ 1024 → length p + length (take 0 p) ≤ 1024
-  key-few h = omega (arith, ap length e)
-
-  pub key-room : (to : ℕ) {n : ℕ} → to + length (writeKey k) ≤ n → to + length (writeKey (p ++ take 0 p)) ≤ n
-  key-room to h = rw key-is h
-
-  pub key-past : (to : ℕ) {r : ℕ} → r ≡ to + length (writeKey (p ++ take 0 p)) → r ≡ to + length (writeKey k)
-  key-past to f = f ∙ ap (λ l. to + length l) key-is
-
-  pub key-put : (d : List ℕ) (to : ℕ) {f : List ℕ} → f ≡ splice d to (writeKey (p ++ take 0 p)) → f ≡ splice d to (writeKey k)
-  key-put d to f = f ∙ ap (splice d to) key-is
-
-pub ruleset key-exits = (key-short, key-few, key-room, key-past, key-put)
 
 -- ---- put_joint
 module _ (d : List ℕ) (to : ℕ) (k : Key) (left : ℕ) (room : to + length (joint k left) ≤ length d) where

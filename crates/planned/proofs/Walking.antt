@@ -1,15 +1,13 @@
 -- The walk over the rows in order, which marks the boundaries: what is marked and what is still to come are all of them.
 -- Assumes nothing.
-use Prim.Native.Nat.{ℕ, _+_, _-_, _<_, _≤_, _^_}
+use Prim.Native.Nat.{ℕ, suc, _+_, _-_, _<_, _≤_, _^_}
 use native.Mathlib.Omega.{arith}
-use native.Mathlib.Nat.{eq-or-lt-of-le}
 use native.Mathlib.Numerals.{add-one}
-use mathlib.Core.Path.{_≡_, refl, sym, ap, _∙_, subst}
-use mathlib.Core.Logic.{⊎-elim}
+use mathlib.Core.Path.{_≡_, refl, sym, ap, _∙_}
 use mathlib.Core.Bool.{Bool, true, false, _&&_}
 use mathlib.Core.List.{List, [], _∷_, _++_, map, append-assoc, append-nil}
 use lib.ListN.{length, getD, take, drop, set, length-set}
-use lib.Seq.{slice, slice-cons, slice-empty, take-suc-set, lt-length-set, getD-set-same, getD-set-other}
+use lib.Seq.{slice, slice-cons, slice-empty, take-suc, take-suc-set}
 use lib.Dec.{T, leb, ltb}
 use borrow.Author.Tests.{leb-true, ltb-true}
 use mir.Val.{Fits}
@@ -17,35 +15,21 @@ use mir.Syntax.{w64}
 use Rattle.base.specs.Lists.{map-append}
 use Rattle.base.specs.Sort.{sort}
 use Rattle.base.specs.Pick.{pick, and-first, and-second}
-use Rattle.key.specs.Order.{Key, keyBelow}
+use Rattle.key.specs.Order.{Key, cmpKey, isEqual, keyBelow}
+use Rattle.comparable_range.proofs.Keyless.{equal-keys}
 use Rattle.format.specs.Got.{isGot}
 use Rattle.format.specs.Key.{readKey}
 use Rattle.records.specs.Values.{Anchor, Anchors}
 use Rattle.manifest.specs.Checks.{total}
-use Rattle.sorted_keys.specs.Rows.{keyThere, IsRow, Rows, countFrom, inOrder}
+use Rattle.key_rows.specs.Rows.{keyThere, Rows, countFrom, inOrder}
 use Rattle.subcompaction.specs.Boundaries.{prepared, boundariesFrom, boundaries}
 use Rattle.planned.specs.Marks.{markedKeys, Marked}
 use Rattle.subcompaction.specs.Tables.{anchorAt, anchorsIn}
+use Rattle.key_rows.proofs.RowLaws.{rows-none, rows-more}
+use Rattle.subcompaction.proofs.OneRange.{prepared-ordered, one-key}
 use Rattle.planned.proofs.Ordered.{prepared-rows, total-prepared, row-below}
 
--- no mark is made
-pub rows-none : (s marks : List ℕ) → Rows s marks 0
-rows-none s marks = record { row = λ r h. absurd (omega arith) }
-
 -- one more mark
-module _ (s marks : List ℕ) (n at : ℕ) (w : n < length marks) where
-  mark-row : T (isGot (readKey (drop at s))) → IsRow s (set marks n at) n
-  mark-row t = record { inside = lt-length-set marks n at w; there = rw (getD-set-same marks n at 0 w) t }
-
-  row-before : {i : ℕ} → i < n → IsRow s marks i → IsRow s (set marks n at) i
-  row-before {i} l q = record { inside = lt-length-set marks n at (q .inside); there = rw (getD-set-other marks n i at 0 (λ e. omega arith)) (q .there) }
-
-  rows-more : T (isGot (readKey (drop at s))) → Rows s marks n → Rows s (set marks n at) (n + 1)
-  rows-more t r = record { row = each }
-    where
-      each : (i : ℕ) → i < n + 1 → IsRow s (set marks n at) i
-      each i h = ⊎-elim (λ e. subst (λ (j : ℕ). IsRow s (set marks n at) j) (sym e) (mark-row t)) (λ l. row-before l (r .row i l)) (eq-or-lt-of-le (omega arith))
-
 marked-more : (s marks : List ℕ) (n at : ℕ) → n < length marks → markedKeys s (set marks n at) (n + 1) ≡ markedKeys s marks n ++ (keyThere s at ∷ [])
 marked-more s marks n at h = rw (add-one, take-suc-set marks n at h) (map-append (keyThere s) (take n marks) (at ∷ []))
 
@@ -91,6 +75,39 @@ module _ (s keys bytes order : List ℕ) (n : ℕ) (rows : Rows s keys n) (o : t
 
   pub first-row : (n ≡ 0 → ⊥) → getD order 0 0 < length keys
   first-row z = rows .row (getD order 0 0) (row-below s keys order n 0 o (omega arith)) .inside
+
+  pub last-row : (n ≡ 0 → ⊥) → getD order (n - 1) 0 < length keys
+  last-row z = rows .row (getD order (n - 1) 0) (row-below s keys order n (n - 1) o (omega arith)) .inside
+
+  pub first-there : (n ≡ 0 → ⊥) → T (isGot (readKey (drop (getD keys (getD order 0 0) 0) s)))
+  first-there z = rows .row (getD order 0 0) (row-below s keys order n 0 o (omega arith)) .there
+
+  pub last-there : (n ≡ 0 → ⊥) → T (isGot (readKey (drop (getD keys (getD order (n - 1) 0) 0) s)))
+  last-there z = rows .row (getD order (n - 1) 0) (row-below s keys order n (n - 1) o (omega arith)) .there
+
+  -- the largest key is the smallest
+  pub one-key-marked :
+      (parts goal : ℕ) (marks : List ℕ) {t : Bool}
+      → (n ≡ 0 → ⊥)
+      → n ≤ length order
+      → t ≡ isEqual (cmpKey (keyThere s (getD keys (getD order 0 0) 0)) (keyThere s (getD keys (getD order (n - 1) 0) 0)))
+      → t ≡ true
+      → Marked s marks 0 (boundaries parts goal (prepared (anchorsIn s keys bytes n)))
+  one-key-marked parts goal marks z h e f =
+      let first = ap (map (anchorAt s keys bytes)) (slice-cons 0 n order 0 (omega arith) h) in
+      let one : suc (n - 1) ≡ n = omega arith in
+      let last = ap (λ i. map (anchorAt s keys bytes) (take i order)) (sym one) ∙ ap (map (anchorAt s keys bytes)) (take-suc order (n - 1) 0 (omega arith)) ∙ map-append (anchorAt s keys bytes) (take (n - 1) order) (getD order (n - 1) 0 ∷ []) in
+      record {
+        few = omega arith;
+        there = rows-none s marks;
+        keys =
+            sym
+            (one-key parts goal (map (anchorAt s keys bytes) (take (n - 1) order)) (anchorAt s keys bytes (getD order 0 0)) (anchorAt s keys bytes (getD order (n - 1) 0))
+            (sym all-rows ∙ first)
+            (sym all-rows ∙ last)
+            (prepared-ordered (anchorsIn s keys bytes n))
+            (equal-keys (keyThere s (getD keys (getD order 0 0) 0)) (keyThere s (getD keys (getD order (n - 1) 0) 0)) (sym e ∙ f)));
+      }
 
   pub walk-begin :
       (parts goal : ℕ) (marks : List ℕ)
@@ -221,7 +238,7 @@ module _ {s keys bytes order : List ℕ} {n parts goal : ℕ} {marks₀ marks : 
             most = p .most;
             wide = length-set marks count at ∙ p .wide;
             same = length-set marks count at ∙ p .same;
-            there = rows-more s marks count at mark-in walk-there (p .there);
+            there = rows-more (p .there) at walk-there mark-in;
             last-there = walk-there;
             sum = omega (arith, next-sum);
             small = p .small;
@@ -252,4 +269,4 @@ module _ {s keys bytes order : List ℕ} {n parts goal : ℕ} {marks₀ marks : 
           rest = rw (sym e ∙ y) at next-rest;
         }
 
-pub ruleset walk-exits = (no-rows, first-row, walk-begin, walk-left, walk-left-2, walk-last, walk-same, walk-end, walk-row, walk-keys, walk-bytes, walk-there, walk-sum)
+pub ruleset walk-exits = (no-rows, first-row, last-row, first-there, last-there, one-key-marked, walk-begin, walk-left, walk-left-2, walk-last, walk-same, walk-end, walk-row, walk-keys, walk-bytes, walk-there, walk-sum)

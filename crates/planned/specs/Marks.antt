@@ -13,9 +13,15 @@ use Rattle.comparable_range.specs.declared.Kind.the-variants.{Unbounded, Includ
 use Rattle.format.specs.Key.{writeKey}
 use Rattle.format.specs.Range.{headByte}
 use Rattle.records.specs.Layouts.{plan}
-use Rattle.sorted_keys.specs.Rows.{keyThere, Rows}
-use Rattle.subcompaction.specs.Boundaries.{rangesFrom, selectBoundaries}
+use Rattle.key_rows.specs.Rows.{keyThere, Rows}
+use Rattle.subcompaction.specs.Boundaries.{target, unsplit, rangesFrom, selectBoundaries}
 use Rattle.subcompaction.specs.Tables.{anchorsIn}
+
+-- the bytes that a range is to have, or 0 where one range results
+unfoldable pub goalOf : ℕ → ℕ → ℕ → ℕ
+goalOf parts least bytes =
+    let goal = target parts least bytes in
+    pick (unsplit parts goal bytes) 0 goal
 
 -- the keys at the first n marks
 abbrev pub markedKeys : List ℕ → List ℕ → ℕ → List Key

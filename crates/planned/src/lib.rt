@@ -1,6 +1,11 @@
 // Ranges from anchors: the sorted keys are walked for boundaries, and the plan is measured and written.
 use base::Written;
 use comparable_range::Kind;
+use key_rows::key_part;
+use key_rows::put_key;
+use key_rows::same_key;
+use sorted_keys::sort_few;
+use sorted_keys::sort_many;
 ghost use mathlib.Core.Path.{_≡_};
 ghost use mathlib.Core.Bool.{_&&_};
 ghost use Prim.Native.Nat.{_≤_, _<_, _+_, _^_};
@@ -10,12 +15,12 @@ ghost use Rattle.base.specs.Outcome.{reported, lent, writtenTo};
 ghost use Rattle.base.specs.Splice.{splice};
 ghost use Rattle.key.specs.Order.{keyBelow};
 ghost use Rattle.format.specs.Got.{isGot};
-ghost use Rattle.format.specs.Key.{readKey, writeKey};
+ghost use Rattle.format.specs.Key.{readKey};
 ghost use Rattle.manifest.specs.Checks.{total};
-ghost use Rattle.sorted_keys.specs.Rows.{keyThere, Rows, inOrder};
+ghost use Rattle.key_rows.specs.Rows.{keyThere, Rows, inOrder};
 ghost use Rattle.subcompaction.specs.Boundaries.{prepared};
 ghost use Rattle.subcompaction.specs.Boundaries as choice;
-ghost use Rattle.planned.specs.Marks.{markedKeys, Marked, endKind, joint, joints, planBytes, planTo};
+ghost use Rattle.planned.specs.Marks.{goalOf, markedKeys, Marked, endKind, joint, joints, planBytes, planTo};
 ghost use Rattle.subcompaction.specs.Tables.{anchorsIn};
 
 // How many ranges are asked for, the least bytes of one, and the bytes of all anchors.
@@ -37,15 +42,19 @@ fn target_bytes(parts: usize, least: u64, total: u64) -> u64
     share
 }
 
-// The key at a place, as a part of the slice that it stands in.
-fn key_part(s: &[u8], at: usize) -> &[u8]
-    requires { ⌜ T (isGot (readKey (drop at (now s)))) ⌝ }
-    ensures { λ r. ⌜ now r ≡ keyThere (now (s .entry)) at ⌝ }
+// The same, or 0 where one range results.
+fn goal_bytes(ask: Asked) -> u64
+    ensures { λ r. ⌜ r ≡ goalOf (ask .parts) (ask .least) (ask .total) ⌝ }
 {
-    let key = format::key_there(s, at);
-    let first = key.at;
-    let end = first + key.len;
-    &s[first..end]
+    let parts = ask.parts;
+    if parts <= 1 {
+        return 0;
+    }
+    let goal = target_bytes(parts, ask.least, ask.total);
+    if ask.total <= goal {
+        return 0;
+    }
+    goal
 }
 
 // Whether the key at one place is below the key at another.
@@ -89,6 +98,10 @@ fn boundaries(
         return 0;
     }
     let mut last = keys[order[0]]; // the smallest key
+    let largest = keys[order[n - 1]];
+    if same_key(s, last, largest) {
+        return 0; // all are on one key
+    }
     let mut count = 0;
     let mut threshold = goal;
     let mut reached: u64 = 0;
@@ -109,8 +122,30 @@ fn boundaries(
     count
 }
 
-// The boundaries that are chosen: none where one range results.
-fn choose(
+// The boundaries that few anchors give: none where one range results.
+fn choose_few(
+    s: &[u8],
+    keys: &[usize],
+    bytes: &[u64],
+    n: usize,
+    order: &mut [usize],
+    ask: Asked,
+    marks: &mut [usize],
+) -> usize
+    requires { ⌜ Rows (now s) (now keys) n ⌝ ∗ ⌜ n ≤ length (now bytes) ⌝ ∗ ⌜ n ≤ length (now order) ⌝ ∗ ⌜ n ≤ 64 ⌝ }
+    requires { ⌜ ask .total ≡ total (anchorsIn (now s) (now keys) (now bytes) n) ⌝ ∗ ⌜ ask .total < 2 ^ 63 ⌝ ∗ ⌜ ask .parts ≤ 64 ⌝ ∗ ⌜ length (now marks) ≡ 64 ⌝ }
+    ensures { λ r. ⌜ Marked (now (s .entry)) (now (marks .exit)) r (choice.chosen (ask .parts) (ask .least) (anchorsIn (now (s .entry)) (now (keys .entry)) (now (bytes .entry)) n)) ⌝ }
+{
+    let goal = goal_bytes(ask);
+    if goal == 0 {
+        return 0;
+    }
+    sort_few(s, keys, n, order);
+    boundaries(s, keys, bytes, order, n, ask.parts, goal, marks)
+}
+
+// The same of many.
+fn choose_many(
     s: &[u8],
     keys: &[usize],
     bytes: &[u64],
@@ -123,19 +158,12 @@ fn choose(
     requires { ⌜ ask .total ≡ total (anchorsIn (now s) (now keys) (now bytes) n) ⌝ ∗ ⌜ ask .total < 2 ^ 63 ⌝ ∗ ⌜ ask .parts ≤ 64 ⌝ ∗ ⌜ length (now marks) ≡ 64 ⌝ }
     ensures { λ r. ⌜ Marked (now (s .entry)) (now (marks .exit)) r (choice.chosen (ask .parts) (ask .least) (anchorsIn (now (s .entry)) (now (keys .entry)) (now (bytes .entry)) n)) ⌝ }
 {
-    let parts = ask.parts;
-    if parts <= 1 {
-        return 0;
-    }
-    let goal = target_bytes(parts, ask.least, ask.total);
+    let goal = goal_bytes(ask);
     if goal == 0 {
         return 0;
     }
-    if ask.total <= goal {
-        return 0;
-    }
-    sorted_keys::sort_keys(s, keys, n, order);
-    boundaries(s, keys, bytes, order, n, parts, goal, marks)
+    sort_many(s, keys, n, order);
+    boundaries(s, keys, bytes, order, n, ask.parts, goal, marks)
 }
 
 // How a range ends with so many keys left: at the next one.
@@ -156,21 +184,11 @@ fn plan_size(s: &[u8], marks: &[usize], n: usize) -> usize
     let mut size = 2;
     let mut i = 0;
     while i < n {
-        let key = format::key_there(s, marks[i]);
-        size += 5 + 2 * key.len;
+        let key = key_part(s, marks[i]);
+        size += 5 + 2 * key.len();
         i += 1;
     }
     size
-}
-
-// Writes the key at a place; answers the place past it.
-fn put_key(s: &[u8], at: usize, out: &mut [u8], to: usize) -> usize
-    requires { ⌜ T (isGot (readKey (drop at (now s)))) ⌝ ∗ ⌜ to + length (writeKey (keyThere (now s) at)) ≤ length (now out) ⌝ }
-    ensures { λ r. ⌜ r ≡ to + length (writeKey (keyThere (now (s .entry)) at)) ⌝ }
-    ensures { λ r. ⌜ now (out .exit) ≡ splice (now (out .entry)) to (writeKey (keyThere (now (s .entry)) at)) ⌝ }
-{
-    let key = key_part(s, at);
-    format::put_key(out, to, key, &key[..0])
 }
 
 // Writes the end of one range and the start of the next, both at one key.
@@ -222,22 +240,42 @@ fn write_plan(s: &[u8], marks: &[usize], n: usize, out: &mut [u8]) -> Written
     Written::Wrote(size)
 }
 
-// The plan of the anchors of the first n rows.
-pub fn planned(
+// The plan of the anchors of the first n rows, which are few.
+pub fn planned_few(
     s: &[u8],
     keys: &[usize],
     bytes: &[u64],
     n: usize,
-    order: &mut [usize],
     ask: Asked,
     out: &mut [u8],
 ) -> Written
-    requires { ⌜ Rows (now s) (now keys) n ⌝ ∗ ⌜ n ≤ length (now bytes) ⌝ ∗ ⌜ n ≤ length (now order) ⌝ ∗ ⌜ n ≤ 4096 ⌝ }
+    requires { ⌜ Rows (now s) (now keys) n ⌝ ∗ ⌜ n ≤ length (now bytes) ⌝ ∗ ⌜ n ≤ 64 ⌝ }
     requires { ⌜ ask .total ≡ total (anchorsIn (now s) (now keys) (now bytes) n) ⌝ ∗ ⌜ ask .total < 2 ^ 63 ⌝ ∗ ⌜ ask .parts ≤ 64 ⌝ }
     ensures { λ r. ⌜ r ≡ reported (planTo (length (now (out .entry))) (ask .parts) (ask .least) (now (s .entry)) (now (keys .entry)) (now (bytes .entry)) n) ⌝ }
     ensures { λ r. ⌜ now (out .exit) ≡ lent (now (out .entry)) (planTo (length (now (out .entry))) (ask .parts) (ask .least) (now (s .entry)) (now (keys .entry)) (now (bytes .entry)) n) ⌝ }
 {
     let mut marks = [0usize; 64];
-    let count = choose(s, keys, bytes, n, order, ask, &mut marks);
+    let mut order = [0usize; 64];
+    let count = choose_few(s, keys, bytes, n, &mut order, ask, &mut marks);
+    write_plan(s, &marks, count, out)
+}
+
+// The same of many. Both calls that plan use it, so that it stands apart: a plan of few does not pay for the pages of its tables.
+pub fn planned_many(
+    s: &[u8],
+    keys: &[usize],
+    bytes: &[u64],
+    n: usize,
+    ask: Asked,
+    out: &mut [u8],
+) -> Written
+    requires { ⌜ Rows (now s) (now keys) n ⌝ ∗ ⌜ n ≤ length (now bytes) ⌝ ∗ ⌜ n ≤ 4096 ⌝ }
+    requires { ⌜ ask .total ≡ total (anchorsIn (now s) (now keys) (now bytes) n) ⌝ ∗ ⌜ ask .total < 2 ^ 63 ⌝ ∗ ⌜ ask .parts ≤ 64 ⌝ }
+    ensures { λ r. ⌜ r ≡ reported (planTo (length (now (out .entry))) (ask .parts) (ask .least) (now (s .entry)) (now (keys .entry)) (now (bytes .entry)) n) ⌝ }
+    ensures { λ r. ⌜ now (out .exit) ≡ lent (now (out .entry)) (planTo (length (now (out .entry))) (ask .parts) (ask .least) (now (s .entry)) (now (keys .entry)) (now (bytes .entry)) n) ⌝ }
+{
+    let mut marks = [0usize; 64];
+    let mut order = [0usize; 4096];
+    let count = choose_many(s, keys, bytes, n, &mut order, ask, &mut marks);
     write_plan(s, &marks, count, out)
 }

@@ -14,11 +14,11 @@ use Rattle.records.specs.Form as form
 use Rattle.records.specs.Layouts.{isThere, table, view, run, image, part, job}
 
 -- ---- lists
-all-of-many : {A : Type 0} {f : Form A} {n : ℕ} {xs : List A} → form.All f n xs → All (f .Within) xs
+pub all-of-many : {A : Type 0} {f : Form A} {n : ℕ} {xs : List A} → form.All f n xs → All (f .Within) xs
 all-of-many form.none-left = tt
 all-of-many (form.one-more h a) = (h, all-of-many a)
 
-many-of-all : {A : Type 0} (f : Form A) (xs : List A) → All (f .Within) xs → form.All f (length xs) xs
+pub many-of-all : {A : Type 0} (f : Form A) (xs : List A) → All (f .Within) xs → form.All f (length xs) xs
 many-of-all f [] a = form.none-left
 many-of-all f (x ∷ xs) a = form.one-more (a .0) (many-of-all f xs (a .1))
 

@@ -32,7 +32,7 @@ use Rattle.manifest.specs.declared.images.Judged.{Judged}
 use Rattle.manifest.specs.declared.images.Judged.the-variants.{At as JudgedAt, Stop as JudgedStop}
 use Rattle.manifest.proofs.Given.{whole-read, Numbered, numbered, stopped-is}
 use Rattle.partitioned_keyspace.specs.Asked.{askedChecks}
-use Rattle.sorted_keys.specs.Rows.{Rows, countFrom}
+use Rattle.key_rows.specs.Rows.{Rows, countFrom}
 use Rattle.subcompaction.specs.Anchors.{sampleAnchors}
 use Rattle.subcompaction.specs.PlanCalls.{anchorsSampled, sampleAnchorsOutcome}
 use Rattle.subcompaction.specs.Tables.{anchorsIn, Held, HeldThen, indexThere}

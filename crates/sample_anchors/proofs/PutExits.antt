@@ -2,55 +2,30 @@
 -- Assumes nothing.
 use Prim.Native.Nat.{ℕ, zero, suc, _+_, _*_, _-_, _^_, _<_, _≤_}
 use native.Mathlib.Omega.{arith}
-use native.Mathlib.Nat.{zero-add, add-zero, add-sub-cancel-left}
+use native.Mathlib.Nat.{zero-add, add-zero}
 use mathlib.Core.Path.{_≡_, refl, sym, ap, _∙_}
 use mathlib.Core.List.{List, [], _∷_, _++_, map, append-assoc, append-nil}
-use lib.ListN.{length, getD, take, drop, length-append, length-drop}
-use lib.Seq.{length-take-le}
-use lib.Dec.{T, leb}
+use lib.ListN.{length, getD, drop, length-append}
+use lib.Dec.{T}
 use mir.Val.{Fits}
 use mir.Syntax.{w64}
-use borrow.Author.Tests.{leb-true}
 use Rattle.base.specs.Lists.{map-append}
 use Rattle.base.specs.Outcome.{over, lent, reported, writtenTo, stops-16, keeps, wrote, stands}
 use Rattle.base.specs.declared.Written.the-variants.{Wrote, Stop}
 use Rattle.base.specs.Splice.{splice, splice-none, splice-splice, length-splice}
 use Rattle.key.specs.Order.{Key}
-use Rattle.format.specs.Got.{got, isGot}
-use Rattle.format.specs.Number.{readNumber, writeNumber}
+use Rattle.format.specs.Got.{isGot}
+use Rattle.format.specs.Number.{writeNumber}
 use Rattle.format.specs.Key.{readKey, writeKey}
-use Rattle.format.specs.There.{KeyThere}
-use Rattle.format.specs.declared.there.KeySpan.{KeySpan}
-use Rattle.format.proofs.Layouts.{came, passed, bytes-only, number-length, key-length}
+use Rattle.format.proofs.Layouts.{number-length, key-length}
 use Rattle.records.specs.Form.{writeMany}
 use Rattle.records.specs.Values.{Anchor, Anchors}
 use Rattle.records.specs.Layouts.{anchor, anchors}
-use Rattle.sorted_keys.specs.Rows.{keyThere, keyAt, Rows, countFrom}
+use Rattle.key_rows.specs.Rows.{keyThere, keyAt, Rows, countFrom}
 use Rattle.subcompaction.specs.Tables.{anchorAt, anchorsIn}
 use Rattle.sample_anchors.specs.Fields.{fieldsOf, fieldsIn}
-use Rattle.sampled.proofs.HeldRows.{count-more}
-
--- ---- a key that is there has at most 1,024 bytes
-key-within : (l k r : List ℕ) → readKey l ≡ got k r → length k ≤ 1024
-unfolding readKey
-key-within l k r e =
-    let c = came (readNumber 2 l) _ k r e in
-    let p = passed (leb (c .value) 1024) _ 3 k r (c .second) in
-    rw (bytes-only (c .value) (c .rest) k r (p .1) .long) (leb-true (c .value) 1024 (p .0))
-
-module _ (s : List ℕ) (at : ℕ) {k : KeySpan} (x : KeyThere s (readKey (drop at s)) k) where
-  pub key-is-there : take (k .len) (drop (k .at) s) ≡ keyThere s at
-  unfolding keyThere
-  key-is-there = rw (x .meaning)
-
-  part-length : length (take (k .len) (drop (k .at) s)) ≡ k .len
-  part-length = length-take-le (k .len) (drop (k .at) s) (omega (arith, length-drop (k .at) s, x .inside))
-
-  pub there-length : length (keyThere s at) ≡ k .len
-  there-length = ap length (sym key-is-there) ∙ part-length
-
-  pub there-short : k .len ≤ 1024
-  there-short = rw (← part-length) (key-within (drop at s) (take (k .len) (drop (k .at) s)) (drop (k .at + k .len) s) (x .meaning))
+use Rattle.key_rows.proofs.KeyParts.{key-short}
+use Rattle.key_rows.proofs.RowLaws.{count-more}
 
 -- ---- anchors_len
 fields-append : (ks ls : List Key) → fieldsOf (ks ++ ls) ≡ fieldsOf ks + fieldsOf ls
@@ -61,10 +36,8 @@ fields-append (k ∷ ks) ls = rw (fields-append ks ls) (omega arith)
 fields-more : (s keys : List ℕ) (n : ℕ) → fieldsIn s keys (n + 1) ≡ fieldsIn s keys n + (length (keyAt s keys n) + 10)
 unfolding fieldsOf
 fields-more s keys n =
-    let z : n + 1 ≡ suc n = omega arith in
     let f = keyAt s keys in
-    ap (λ i. fieldsOf (map f (countFrom 0 i))) z
-    ∙ ap (λ l. fieldsOf (map f l)) (count-more 0 n ∙ ap (λ i. countFrom 0 n ++ (i ∷ [])) (zero-add n))
+    ap (λ l. fieldsOf (map f l)) (count-more n)
     ∙ ap fieldsOf (map-append f (countFrom 0 n) (n ∷ []))
     ∙ fields-append (map f (countFrom 0 n)) (f n ∷ [])
     ∙ ap (λ i. fieldsIn s keys n + i) (add-zero (length (f n) + 10))
@@ -94,21 +67,24 @@ module _ {s keys : List ℕ} {n len row : ℕ} (p : Measured s keys n len row) w
     pub row-fits : Fits w64 (row + 1)
     row-fits = omega (arith, p .most)
 
-    module _ {k : KeySpan} (x : KeyThere s (readKey (drop (getD keys row 0) s)) k) where
-      pub field-fits : Fits w64 (k .len + 10)
-      field-fits = omega (arith, there-short s (getD keys row 0) x)
+    module _ {key : List ℕ} (e : key ≡ keyThere s (getD keys row 0)) where
+      short : length key ≤ 1024
+      short = rw e (key-short s (getD keys row 0) measured-key)
 
-      pub length-fits : Fits w64 (len + (k .len + 10))
-      length-fits = omega (arith, there-short s (getD keys row 0) x, p .bound, p .most)
+      pub field-fits : Fits w64 (length key + 10)
+      field-fits = omega (arith, short)
 
-      pub measured-onward : Measured s keys n (len + (k .len + 10)) (row + 1)
+      pub length-fits : Fits w64 (len + (length key + 10))
+      length-fits = omega (arith, short, p .bound, p .most)
+
+      pub measured-onward : Measured s keys n (len + (length key + 10)) (row + 1)
       measured-onward =
           record {
             upto = omega arith;
             most = p .most;
             rows = p .rows;
-            long = omega (arith, p .long, fields-more s keys row, there-length s (getD keys row 0) x);
-            bound = omega (arith, p .bound, there-short s (getD keys row 0) x);
+            long = omega (arith, p .long, fields-more s keys row, ap length e);
+            bound = omega (arith, p .bound, short);
           }
 
 pub ruleset len-exits = (measured-begin, measured-all, measured-row, measured-key, row-fits, field-fits, length-fits, measured-onward)
@@ -124,44 +100,31 @@ anchor-is a = refl
 anchor-length : (a : Anchor) → length (anchor .write a) ≡ length (writeKey (a .key)) + 8
 anchor-length a = ap length (anchor-is a) ∙ length-append (writeKey (a .key)) (writeNumber 8 (a .bytes)) ∙ ap (λ i. length (writeKey (a .key)) + i) (number-length 8 (a .bytes))
 
-module _ (s : List ℕ) (at size : ℕ) (d : List ℕ) (to : ℕ) (room : to + length (anchor .write (anchorOf s at size)) ≤ length d) {k : KeySpan} (x : KeyThere s (readKey (drop at s)) k) where
-  abbrev part : List ℕ
-  part = take (k .at + k .len - k .at) (drop (k .at) s)
+module _ (s : List ℕ) (at size : ℕ) (d : List ℕ) (to : ℕ) (room : to + length (anchor .write (anchorOf s at size)) ≤ length d) where
+  pub key-room : to + length (writeKey (keyThere s at)) ≤ length d
+  key-room = omega (arith, anchor-length (anchorOf s at size))
 
-  part-is : part ++ [] ≡ keyThere s at
-  part-is = append-nil part ∙ rw add-sub-cancel-left (key-is-there s at x)
-
-  pub part-short : length part + 0 ≤ 1024
-  part-short = rw add-sub-cancel-left (omega (arith, part-length s at x, there-short s at x))
-
-  pub part-room : to + length (writeKey (part ++ [])) ≤ length d
-  part-room = rw part-is (omega (arith, anchor-length (anchorOf s at size)))
-
-  module _ {next : ℕ} {f : List ℕ} (e : next ≡ to + length (writeKey (part ++ []))) (p : f ≡ splice d to (writeKey (part ++ []))) where
-    next-is : next ≡ to + length (writeKey (keyThere s at))
-    next-is = e ∙ ap (λ l. to + length (writeKey l)) part-is
-
+  module _ {next : ℕ} {f : List ℕ} (e : next ≡ to + length (writeKey (keyThere s at))) (p : f ≡ splice d to (writeKey (keyThere s at))) where
     same-length : length f ≡ length d
-    same-length = ap length p ∙ length-splice d to (writeKey (part ++ [])) part-room
+    same-length = ap length p ∙ length-splice d to (writeKey (keyThere s at)) key-room
 
     pub size-room : next + 8 ≤ length f
-    size-room = omega (arith, next-is, same-length, anchor-length (anchorOf s at size))
+    size-room = omega (arith, e, same-length, anchor-length (anchorOf s at size))
 
     pub past-fits : length d < 2 ^ 64 → Fits w64 (next + 8)
     past-fits h = omega (arith, size-room, same-length)
 
     pub past-is : next + 8 ≡ to + length (anchor .write (anchorOf s at size))
-    past-is = omega (arith, next-is, anchor-length (anchorOf s at size))
+    past-is = omega (arith, e, anchor-length (anchorOf s at size))
 
     pub anchor-put : {g : List ℕ} → g ≡ splice f next (writeNumber 8 size) → g ≡ splice d to (anchor .write (anchorOf s at size))
     anchor-put w =
         w
         ∙ ap (λ l. splice l next (writeNumber 8 size)) p
-        ∙ splice-splice d to (writeKey (part ++ [])) (writeNumber 8 size) next e part-room
-        ∙ ap (λ l. splice d to (writeKey l ++ writeNumber 8 size)) part-is
+        ∙ splice-splice d to (writeKey (keyThere s at)) (writeNumber 8 size) next e key-room
         ∙ ap (splice d to) (sym (anchor-is (anchorOf s at size)))
 
-pub ruleset put-anchor-exits = (part-short, part-room, size-room, past-fits, past-is, anchor-put)
+pub ruleset put-anchor-exits = (key-room, size-room, past-fits, past-is, anchor-put)
 
 -- ---- put_rows
 written-append : (as′ bs : Anchors) → writeMany (anchor .write) (as′ ++ bs) ≡ writeMany (anchor .write) as′ ++ writeMany (anchor .write) bs
@@ -184,10 +147,8 @@ module _ (s keys bytes : List ℕ) where
   text-more : (n : ℕ) → text (n + 1) ≡ text n ++ anchor .write (anchorAt s keys bytes n)
   unfolding anchorsIn writeMany
   text-more n =
-      let z : n + 1 ≡ suc n = omega arith in
       let f = anchorAt s keys bytes in
-      ap (λ i. writeMany (anchor .write) (map f (countFrom 0 i))) z
-      ∙ ap (λ l. writeMany (anchor .write) (map f l)) (count-more 0 n ∙ ap (λ i. countFrom 0 n ++ (i ∷ [])) (zero-add n))
+      ap (λ l. writeMany (anchor .write) (map f l)) (count-more n)
       ∙ ap (writeMany (anchor .write)) (map-append f (countFrom 0 n) (n ∷ []))
       ∙ written-append (map f (countFrom 0 n)) (f n ∷ [])
       ∙ ap (λ l. writeMany (anchor .write) (map f (countFrom 0 n)) ++ l) (append-nil (anchor .write (f n)))

@@ -3,7 +3,7 @@ use Prim.Native.Nat.{ℕ, _+_}
 use mathlib.Core.List.{List, [], _∷_, map}
 use lib.ListN.{length}
 use Rattle.key.specs.Order.{Key}
-use Rattle.sorted_keys.specs.Rows.{keyAt, countFrom}
+use Rattle.key_rows.specs.Rows.{keyAt, countFrom}
 
 -- how long the fields of n rows are, beside a count: each key, its length and eight bytes
 unfoldable pub fieldsOf : List Key → ℕ

@@ -1,5 +1,7 @@
 // Anchors that stand in tables, written into a lent buffer.
 use base::Written;
+use key_rows::key_part;
+use key_rows::put_key;
 ghost use mathlib.Core.Path.{_≡_};
 ghost use Prim.Native.Nat.{_≤_, _+_};
 ghost use lib.Dec.{T};
@@ -10,7 +12,7 @@ ghost use Rattle.format.specs.Got.{isGot};
 ghost use Rattle.format.specs.Key.{readKey};
 ghost use Rattle.records.specs.Form.{writeMany};
 ghost use Rattle.records.specs.Layouts.{anchor, anchors};
-ghost use Rattle.sorted_keys.specs.Rows.{keyThere, Rows};
+ghost use Rattle.key_rows.specs.Rows.{keyThere, Rows};
 ghost use Rattle.subcompaction.specs.Tables.{anchorsIn};
 ghost use Rattle.sample_anchors.specs.Fields.{fieldsIn};
 
@@ -22,8 +24,8 @@ fn anchors_len(s: &[u8], keys: &[usize], n: usize) -> usize
     let mut len = 2;
     let mut row = 0;
     while row < n {
-        let key = format::key_there(s, keys[row]);
-        len += key.len + 10;
+        let key = key_part(s, keys[row]);
+        len += key.len() + 10;
         row += 1;
     }
     len
@@ -35,10 +37,7 @@ fn put_anchor(s: &[u8], at: usize, size: u64, out: &mut [u8], to: usize) -> usiz
     ensures { λ r. ⌜ r ≡ to + length (anchor .write (record { key = keyThere (now (s .entry)) at; bytes = size })) ⌝ }
     ensures { λ r. ⌜ now (out .exit) ≡ splice (now (out .entry)) to (anchor .write (record { key = keyThere (now (s .entry)) at; bytes = size })) ⌝ }
 {
-    let key = format::key_there(s, at);
-    let from = key.at;
-    let end = from + key.len;
-    let next = format::put_key(out, to, &s[from..end], &s[..0]);
+    let next = put_key(s, at, out, to);
     format::put_number(out, next, size, 8);
     next + 8
 }

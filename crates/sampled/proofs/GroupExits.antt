@@ -25,7 +25,7 @@ use Rattle.records.specs.declared.there.BlockSpan.{BlockSpan}
 use Rattle.records.proofs.Forms.{readMany-length, many-split}
 use Rattle.records.proofs.ThereExits.{block-room}
 use Rattle.manifest.specs.Faults.{least}
-use Rattle.sorted_keys.specs.Rows.{keyThere}
+use Rattle.key_rows.specs.Rows.{keyThere}
 use Rattle.subcompaction.specs.Anchors.{stride, beginning}
 use Rattle.sampled.specs.Groups.{GroupThere}
 use Rattle.sampled.proofs.SampleSizes.{block-is-long, blocks-are-long}

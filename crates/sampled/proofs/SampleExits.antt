@@ -2,11 +2,11 @@
 -- Assumes nothing.
 use Prim.Native.Nat.{ℕ, zero, suc, _+_, _*_, _-_, _^_, _<_, _≤_, max}
 use native.Mathlib.Omega.{arith}
-use native.Mathlib.Nat.{add-zero, add-assoc, add-sub-cancel-left}
+use native.Mathlib.Nat.{add-zero, add-assoc}
 use mathlib.Core.Path.{_≡_, refl, sym, ap, _∙_}
 use mathlib.Core.Bool.{Bool, true, false}
 use mathlib.Core.List.{List, [], _∷_, _++_, append-assoc, append-nil}
-use lib.ListN.{length, take, drop, set, length-set, length-drop}
+use lib.ListN.{length, drop, set, length-set, length-drop}
 use lib.Seq.{set-out}
 use lib.Dec.{T, ltb}
 use mir.Val.{Fits}
@@ -18,8 +18,6 @@ use Rattle.comparable_range.specs.Range.{Range, holds}
 use Rattle.format.specs.Got.{Got, got, stop, isGot}
 use Rattle.format.specs.Number.{readNumber}
 use Rattle.format.specs.Key.{readKey}
-use Rattle.format.specs.There.{KeyThere}
-use Rattle.format.specs.declared.there.KeySpan.{KeySpan}
 use Rattle.format.proofs.ThereExits.{first-got, number-got}
 use Rattle.records.specs.Form.{readMany}
 use Rattle.records.specs.Found.{valuesOf}
@@ -30,7 +28,7 @@ use Rattle.records.proofs.BlockExits.{index-is}
 use Rattle.manifest.specs.Checks.{total}
 use Rattle.manifest.specs.Faults.{least}
 use Rattle.manifest.proofs.AnchorExits.{least-most, least-added, total-more}
-use Rattle.sorted_keys.specs.Rows.{keyThere}
+use Rattle.key_rows.specs.Rows.{keyThere}
 use Rattle.subcompaction.specs.Anchors.{stride, beginning, groups, heldBy, sampleAnchors}
 use Rattle.subcompaction.specs.Tables.{Held, indexThere}
 use Rattle.sampled.specs.Groups.{GroupThere, rowAdded, RowIf}
@@ -41,14 +39,8 @@ use Rattle.subcompaction.proofs.Samples.{stride-reaches}
 use Rattle.sampled.proofs.HeldRows.{held-more}
 
 -- ---- key_held
-pub key-asked : (s : List ℕ) (at : ℕ) (r : Range) {k : KeySpan} {t : Bool} → KeyThere s (readKey (drop at s)) k → t ≡ holds r (take (k .at + k .len - k .at) (drop (k .at) s)) → t ≡ holds r (keyThere s at)
-unfolding keyThere
-key-asked s at r {k} x e = e ∙ rw (x .meaning, add-sub-cancel-left)
-
-pub key-fits : (s : List ℕ) (at : ℕ) {k : KeySpan} → length s < 2 ^ 64 → KeyThere s (readKey (drop at s)) k → Fits w64 (k .at + k .len)
-key-fits s at h x = omega (arith, x .inside)
-
-pub ruleset held-exits = (key-asked, key-fits)
+pub key-asked : (s : List ℕ) (at : ℕ) (r : Range) {key : List ℕ} {t : Bool} → key ≡ keyThere s at → t ≡ holds r key → t ≡ holds r (keyThere s at)
+key-asked s at r e h = h ∙ rw e
 
 -- ---- with_row
 pub row-added : (k : Kept) (size : ℕ) {n : ℕ} → n ≡ least (k .total + size) (2 ^ 63) → record { rows = k .rows + 1; total = n } ≡ rowAdded size k

@@ -16,7 +16,7 @@ use Rattle.records.specs.Found.{valuesOf}
 use Rattle.records.specs.Values.{Block, Index, Anchors}
 use Rattle.records.specs.Layouts.{block}
 use Rattle.manifest.specs.Faults.{least}
-use Rattle.sorted_keys.specs.Rows.{keyThere}
+use Rattle.key_rows.specs.Rows.{keyThere}
 use Rattle.subcompaction.specs.Anchors.{beginning, sampleAnchors}
 use Rattle.subcompaction.specs.Tables.{indexThere}
 use Rattle.sampled.specs.declared.GroupSpan.{GroupSpan}

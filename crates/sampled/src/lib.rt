@@ -1,6 +1,7 @@
 // The anchors of a table: its blocks in groups, each with its first key and its bytes; those whose key a range holds.
 use format::span;
 use format::span::RangeSpan;
+use key_rows::key_part;
 ghost use mathlib.Core.Path.{_≡_};
 ghost use Prim.Native.Nat.{_≤_, _<_, _+_, _-_, _^_};
 ghost use lib.Dec.{T};
@@ -121,10 +122,7 @@ fn key_held(s: &[u8], at: usize, within: &[u8], range: RangeSpan) -> bool
     requires { ⌜ T (isGot (readKey (drop at (now s)))) ⌝ ∗ ⌜ BoundInside (now within) (range .start) ⌝ ∗ ⌜ BoundInside (now within) (range .end) ⌝ }
     ensures { λ r. ⌜ r ≡ heldThere (now (s .entry)) at (now (within .entry)) range ⌝ }
 {
-    let key = format::key_there(s, at);
-    let from = key.at;
-    let to = from + key.len;
-    span::holds(within, range, &s[from..to])
+    span::holds(within, range, key_part(s, at))
 }
 
 // The row of a group, if the range holds its key.

@@ -20,11 +20,12 @@ use Rattle.records.proofs.Many.{Reading, begin, stopped, onward, all-read}
 use Rattle.manifest.specs.Checks.{total}
 use Rattle.manifest.specs.Faults.{least}
 use Rattle.manifest.proofs.AnchorExits.{least-most, least-added, total-append}
-use Rattle.sorted_keys.specs.Rows.{keyGot, keyThere, Rows}
+use Rattle.key_rows.specs.Rows.{keyGot, keyThere, Rows}
+use Rattle.key_rows.proofs.RowLaws.{rows-none, rows-more}
 use Rattle.subcompaction.specs.Tables.{anchorsIn}
+use Rattle.subcompaction.proofs.RowsMore.{anchors-none, anchors-more}
 use Rattle.select_boundaries.specs.AnchorsFound.{AnchorsFound}
 use Rattle.select_boundaries.specs.declared.AnchorsRead.the-variants.{At, Stop}
-use Rattle.select_boundaries.proofs.RowLaws.{anchors-none, rows-none, anchors-more, rows-more}
 
 -- ---- an anchor begins with its key
 pub record KeyFirst (l : List ℕ) (k : Key) : Type 0 where

@@ -24,7 +24,7 @@ use Rattle.records.proofs.BlockExits.{anchors-is}
 use Rattle.manifest.specs.Checks.{total, anchorsChecks}
 use Rattle.manifest.proofs.AnchorExits.{least-exact, least-reached}
 use Rattle.manifest.proofs.ImageExits.{count-within}
-use Rattle.sorted_keys.specs.Rows.{Rows}
+use Rattle.key_rows.specs.Rows.{Rows}
 use Rattle.subcompaction.specs.Boundaries.{selectBoundaries}
 use Rattle.subcompaction.specs.PlanCalls.{anchorsGiven, selectBoundariesOutcome}
 use Rattle.subcompaction.specs.Tables.{anchorsIn}

@@ -11,7 +11,7 @@ use Rattle.records.specs.Values.{Anchors}
 use Rattle.records.specs.Layouts.{anchor, plan}
 use Rattle.manifest.specs.Checks.{checked, total, anchorsChecks}
 use Rattle.manifest.specs.Faults.{least}
-use Rattle.sorted_keys.specs.Rows.{Rows}
+use Rattle.key_rows.specs.Rows.{Rows}
 use Rattle.subcompaction.specs.Boundaries.{selectBoundaries}
 use Rattle.subcompaction.specs.Tables.{anchorsIn}
 use Rattle.select_boundaries.specs.declared.AnchorsRead.{AnchorsRead}

@@ -1,7 +1,8 @@
 // `select_boundaries` of subcompaction.rs: anchors that are the whole of a buffer are read into tables in one pass, and ranges made of them.
 use base::Written;
 use planned::Asked;
-use planned::planned;
+use planned::planned_few;
+use planned::planned_many;
 use records::AnchorRead;
 use records::CountRead;
 ghost use mathlib.Core.Path.{_≡_};
@@ -72,10 +73,9 @@ fn selected_with(
     set: Settings,
     keys: &mut [usize],
     bytes: &mut [u64],
-    order: &mut [usize],
     out: &mut [u8],
 ) -> Written
-    requires { ⌜ from ≤ length (now s) ⌝ ∗ ⌜ n ≤ length (now keys) ⌝ ∗ ⌜ n ≤ length (now bytes) ⌝ ∗ ⌜ n ≤ length (now order) ⌝ }
+    requires { ⌜ from ≤ length (now s) ⌝ ∗ ⌜ n ≤ length (now keys) ⌝ ∗ ⌜ n ≤ length (now bytes) ⌝ }
     requires { ⌜ n ≤ 4096 ⌝ ∗ ⌜ set .parts ≤ 64 ⌝ }
     ensures { λ r. ⌜ r ≡ reported (selectedFrom (set .parts) (set .least) (anchorsEnding (now (s .entry)) n from) (length (now (out .entry)))) ⌝ }
     ensures { λ r. ⌜ now (out .exit) ≡ lent (now (out .entry)) (selectedFrom (set .parts) (set .least) (anchorsEnding (now (s .entry)) n from) (length (now (out .entry)))) ⌝ }
@@ -92,7 +92,10 @@ fn selected_with(
                     least: set.least,
                     total,
                 };
-                return planned(s, keys, bytes, n, order, ask, out);
+                if n <= 64 {
+                    return planned_few(s, keys, bytes, n, ask, out);
+                }
+                return planned_many(s, keys, bytes, n, ask, out);
             }
             Written::Stop(7)
         }
@@ -108,13 +111,11 @@ fn selected_from(s: &[u8], n: usize, from: usize, set: Settings, out: &mut [u8])
     if n <= 64 {
         let mut keys = [0usize; 64];
         let mut bytes = [0u64; 64];
-        let mut order = [0usize; 64];
-        return selected_with(s, n, from, set, &mut keys, &mut bytes, &mut order, out);
+        return selected_with(s, n, from, set, &mut keys, &mut bytes, out);
     }
     let mut keys = [0usize; 4096];
     let mut bytes = [0u64; 4096];
-    let mut order = [0usize; 4096];
-    selected_with(s, n, from, set, &mut keys, &mut bytes, &mut order, out)
+    selected_with(s, n, from, set, &mut keys, &mut bytes, out)
 }
 
 // Ranges that split all keys into at most so many parts, by anchors: of about as many bytes each, and of no fewer than the least.

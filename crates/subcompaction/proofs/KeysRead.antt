@@ -22,6 +22,7 @@ use Rattle.records.specs.Form as form
 use Rattle.records.specs.Values.{Block, Index, Anchor, Anchors}
 use Rattle.records.specs.Layouts.{upTo, counted, block, index, anchor, anchors, plan}
 use Rattle.records.specs.Laws.{Lawful}
+use Rattle.records.proofs.Within.{many-of-all}
 use Rattle.subcompaction.specs.Boundaries.{rangesFrom}
 
 -- ---- what was read
@@ -77,14 +78,6 @@ unfolding index
 index-read l x r e = counted-read (λ b. KeyWithin (b .first)) (number 2) block block-read l x r e
 
 -- ---- what reads back
-many-within : {A : Type 0} (f : Form A) (xs : List A) → All (f .Within) xs → form.All f (length xs) xs
-many-within f [] a = form.none-left
-many-within f (x ∷ xs) a = form.one-more (a .0) (many-within f xs (a .1))
-
-pub each-within : {A : Type 0} {f : Form A} {n : ℕ} {xs : List A} → form.All f n xs → All (f .Within) xs
-each-within form.none-left = tt
-each-within (form.one-more h a) = (h, each-within a)
-
 -- what is within the ceilings reads back from its bytes, to their end
 pub reads-back : {A : Type 0} {f : Form A} → Lawful f → (v : A) → f .Within v → ended (f .read (f .write v)) ≡ answer v
 reads-back {f = f} F v w = ap (λ l. ended (f .read l)) (sym (append-nil (f .write v))) ∙ ap ended (F .back v [] w)
@@ -96,8 +89,8 @@ ranges-within s (k ∷ ks) h a = (record { start = h; end = a .0 }, ranges-withi
 
 pub plan-within : (ks : List Key) → length (rangesFrom unbounded ks) ≤ 64 → All KeyWithin ks → plan .Within (rangesFrom unbounded ks)
 unfolding plan
-plan-within ks n a = record { first = n; second = many-within range (rangesFrom unbounded ks) (ranges-within unbounded ks tt a) }
+plan-within ks n a = record { first = n; second = many-of-all range (rangesFrom unbounded ks) (ranges-within unbounded ks tt a) }
 
 pub anchors-within : (a : Anchors) → length a ≤ 4096 → All (anchor .Within) a → anchors .Within a
 unfolding anchors
-anchors-within a n w = record { first = n; second = many-within anchor a w }
+anchors-within a n w = record { first = n; second = many-of-all anchor a w }

@@ -1,3 +1,4 @@
+pub mod RowsMore
 pub mod Samples
 pub mod Boundaries
 pub mod Ranges

@@ -141,6 +141,19 @@ module _ (parts goal : ℕ) where
       none-above goal (parts - 1) goal (p .key) 0 (p ∷ l)
       (All-map (λ x k. not-below (p .key) (x .key) (keys-ordered .trans (x .key) (z .key) (p .key) k (h .0))) (p ∷ l) g)
 
+  -- the largest key is the smallest
+  pub one-key :
+      {l m : Anchors} (front : Anchors) (p z : Anchor)
+      → l ≡ p ∷ m
+      → l ≡ front ++ (z ∷ [])
+      → Ordered l
+      → p .key ≡ z .key
+      → boundaries parts goal l ≡ []
+  one-key {l} {m} front p z e f o k =
+      let q = subst Ordered e o in
+      none-ordered l front z f o
+      (inr (subst (All (λ x. keyAtMost (z .key) (x .key) ≡ true)) (sym e) (rw (← k) (at-most-self (p .key), q .0))))
+
 -- ---- those chosen
 record Divided (parts goal bytes : ℕ) : Type 0 where
   parts-left : 1 < parts

@@ -32,7 +32,8 @@ use Rattle.subcompaction.specs.Anchors.{stride, beginning, groups, sampl
 use Rattle.subcompaction.specs.PlanCalls.{anchorsSampled, sampleAnchorsOutcome}
 use Rattle.subcompaction.specs.PlanLaws.{AnchorsAnswered, EachSampleAnswered}
 use Rattle.subcompaction.proofs.Samples.{held-of, sampled-of, at-most-that-many-anchors, sampled-keys-are-held, sampled-keys-ascend}
-use Rattle.subcompaction.proofs.KeysRead.{index-read, each-within, reads-back, anchors-within}
+use Rattle.records.proofs.Within.{all-of-many}
+use Rattle.subcompaction.proofs.KeysRead.{index-read, reads-back, anchors-within}
 use Rattle.subcompaction.proofs.PlanAnswers.{passed-order, wrote-all}
 
 -- ---- a number written in eight bytes
@@ -93,7 +94,7 @@ offsets-small : (l : List ℕ) (x : Index) → Bytes l → whole (index .read) l
 unfolding index block
 offsets-small l x b e =
     let w = index-layout .only l x [] b (whole-read (index .read) l x e .all) .within in
-    All-map (λ c h. h .first) x (each-within (w .second))
+    All-map (λ c h. h .first) x (all-of-many (w .second))
 
 sampled-small : (most dataEnd : ℕ) (x : Index) (r : Range) → dataEnd < 2 ^ 64 → All (λ b. b .offset < 256 ^ 8) x → All (λ a. a .bytes < 256 ^ 8) (sampleAnchors most dataEnd x r)
 unfolding sampleAnchors

@@ -6,7 +6,7 @@ use lib.ListN.{length, getD, take, drop}
 use Rattle.records.specs.Found.{valuesOf}
 use Rattle.records.specs.Values.{Index, Anchor, Anchors}
 use Rattle.records.specs.Layouts.{index}
-use Rattle.sorted_keys.specs.Rows.{keyAt, Rows, countFrom}
+use Rattle.key_rows.specs.Rows.{keyAt, Rows, countFrom}
 
 abbrev pub anchorAt : List ℕ → List ℕ → List ℕ → ℕ → Anchor
 anchorAt s keys bytes r = record { key = keyAt s keys r; bytes = getD bytes r 0 }

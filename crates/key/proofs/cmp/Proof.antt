@@ -28,12 +28,6 @@ agreed-requires c κs = search (needs, kept)
 loop-holds : tie.Need-loop-holds Inv-loop μ-loop
 loop-holds c = search (needs, kept)
 
-reversed-requires : tie.Need-reversed-requires Inv-loop μ-loop
-reversed-requires c κs = search (needs, kept)
-
-reversed-requires-2 : tie.Need-reversed-requires-2 Inv-loop μ-loop
-reversed-requires-2 c κs = search (needs, kept)
-
 word-requires : tie.Need-word-requires Inv-loop μ-loop
 word-requires c κs = search (needs, kept)
 
@@ -84,8 +78,6 @@ cmp-spec =
     returns
     agreed-requires
     loop-holds
-    reversed-requires
-    reversed-requires-2
     word-requires
     word-requires-2
     cmp-number-requires

@@ -1,7 +1,7 @@
--- `plan_subcompaction_ranges::planner::plan_judged` meets its contract.
+-- `plan_subcompaction_ranges::plan_judged` meets its contract.
 -- Assumes nothing.
-use Rattle.plan_subcompaction_ranges.proofs.PlanCallExits.{table-exits}
 use borrow.Author.Needs.{needs}
+use Rattle.plan_subcompaction_ranges.proofs.PlanCallExits.{table-exits}
 use Rattle.plan_subcompaction_ranges.proofs.plan_judged.Statement.{statement}
 use Rattle.plan_subcompaction_ranges.proofs.plan_judged.Tie as tie
 
@@ -11,12 +11,9 @@ slice-aggregate-plan-sampled c = search needs
 slice-aggregate-plan-sampled-2 : tie.Need-slice-aggregate-plan-sampled-2
 slice-aggregate-plan-sampled-2 c = search needs
 
-slice-aggregate-plan-sampled-3 : tie.Need-slice-aggregate-plan-sampled-3
-slice-aggregate-plan-sampled-3 c = search needs
-
 plan-sampled-requires : tie.Need-plan-sampled-requires
 plan-sampled-requires c κs =
-    (search needs, (search needs, (search needs, (search (needs, table-exits), (search needs, search needs)))))
+    (search needs, (search needs, (search needs, (search (needs, table-exits), search needs))))
 
 same-length : tie.Need-same-length
 same-length c = search needs
@@ -24,18 +21,15 @@ same-length c = search needs
 returns : tie.Need-returns
 returns c = search needs
 
+slice-aggregate-plan-sampled-3 : tie.Need-slice-aggregate-plan-sampled-3
+slice-aggregate-plan-sampled-3 c = search needs
+
 slice-aggregate-plan-sampled-4 : tie.Need-slice-aggregate-plan-sampled-4
 slice-aggregate-plan-sampled-4 c = search needs
 
-slice-aggregate-plan-sampled-5 : tie.Need-slice-aggregate-plan-sampled-5
-slice-aggregate-plan-sampled-5 c = search needs
-
-slice-aggregate-plan-sampled-6 : tie.Need-slice-aggregate-plan-sampled-6
-slice-aggregate-plan-sampled-6 c = search needs
-
 plan-sampled-requires-2 : tie.Need-plan-sampled-requires-2
 plan-sampled-requires-2 c κs =
-    (search needs, (search needs, (search needs, (search (needs, table-exits), (search needs, search needs)))))
+    (search needs, (search needs, (search needs, (search (needs, table-exits), search needs))))
 
 same-length-2 : tie.Need-same-length-2
 same-length-2 c = search needs
@@ -49,13 +43,11 @@ plan-judged-spec =
     (tie.spec
     slice-aggregate-plan-sampled
     slice-aggregate-plan-sampled-2
-    slice-aggregate-plan-sampled-3
     plan-sampled-requires
     same-length
     returns
+    slice-aggregate-plan-sampled-3
     slice-aggregate-plan-sampled-4
-    slice-aggregate-plan-sampled-5
-    slice-aggregate-plan-sampled-6
     plan-sampled-requires-2
     same-length-2
     returns-2)

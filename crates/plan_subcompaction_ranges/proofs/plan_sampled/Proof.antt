@@ -1,7 +1,7 @@
--- `plan_subcompaction_ranges::planner::plan_sampled` meets its contract.
+-- `plan_subcompaction_ranges::plan_sampled` meets its contract.
 -- Assumes nothing.
-use Rattle.plan_subcompaction_ranges.proofs.PlannerExits.{plan-exits, rows-there, bytes-inside, order-inside, rows-most, total-of-rows, rows-total-fits, planned-told, planned-written}
 use borrow.Author.Needs.{needs}
+use Rattle.plan_subcompaction_ranges.proofs.PlannerExits.{plan-exits, rows-there, bytes-inside, rows-most, total-of-rows, rows-total-fits, planned-told, planned-written}
 use Rattle.plan_subcompaction_ranges.proofs.plan_sampled.Statement.{statement}
 use Rattle.plan_subcompaction_ranges.proofs.plan_sampled.Tie as tie
 
@@ -26,18 +26,15 @@ same-length-2 c = search (needs, plan-exits)
 returns : tie.Need-returns
 returns c = search (needs, plan-exits)
 
-planned-requires : tie.Need-planned-requires
-planned-requires c κs =
+planned-few-requires : tie.Need-planned-few-requires
+planned-few-requires c κs =
     let q = c .before .before .before .before .before .before .before .before .before .before .before .before .before .before .before .before .before .before .before .before .before .before .before .pre in
-    let x = c .before .before .before .before .before .before .before .before .before .before .before .before .before .before .runs-sampled .ensures in
-    let e = c .before .before .before .before .before .before .stop-after .ensures in (
+    let x = c .before .before .before .before .before .before .before .before .before .before .before .before .before .before .before .runs-sampled .ensures in
+    let e = c .before .before .before .before .before .before .before .stop-after .ensures in (
       rows-there _ _ (q .1 .0) x (search needs) e (search needs) (q .1 .1 .1 .0),
       (
         search (needs, bytes-inside, q),
-        (
-          search (needs, order-inside, q),
-          (search (needs, rows-most), (total-of-rows _ _ (q .1 .0) x (search needs) e (search needs) (q .1 .1 .1 .0), (search (needs, rows-total-fits, q), search (needs, q)))),
-        ),
+        (search (needs, plan-exits), (total-of-rows _ _ (q .1 .0) x (search needs) e (search needs) (q .1 .1 .1 .0), (search (needs, rows-total-fits, q), search (needs, q)))),
       ),
     )
 
@@ -47,11 +44,23 @@ same-length-3 c = search (needs, plan-exits)
 same-length-4 : tie.Need-same-length-4
 same-length-4 c = search (needs, plan-exits)
 
-returns-2 : tie.Need-returns-2
-returns-2 c = search (needs, plan-exits)
-
 same-length-5 : tie.Need-same-length-5
 same-length-5 c = search (needs, plan-exits)
+
+returns-2 : tie.Need-returns-2
+returns-2 c = let q = c .before .before .before .before .before .before .before .before .before .before .before .before .before .before .before .before .before .before .before .before .before .before .before .before .before .before .pre in (search (needs, planned-told, q), search (needs, planned-written, q))
+
+planned-many-requires : tie.Need-planned-many-requires
+planned-many-requires c κs =
+    let q = c .before .before .before .before .before .before .before .before .before .before .before .before .before .before .before .before .before .before .before .before .before .before .before .pre in
+    let x = c .before .before .before .before .before .before .before .before .before .before .before .before .before .before .before .runs-sampled .ensures in
+    let e = c .before .before .before .before .before .before .before .stop-after .ensures in (
+      rows-there _ _ (q .1 .0) x (search needs) e (search needs) (q .1 .1 .1 .0),
+      (
+        search (needs, bytes-inside, q),
+        (search (needs, rows-most), (total-of-rows _ _ (q .1 .0) x (search needs) e (search needs) (q .1 .1 .1 .0), (search (needs, rows-total-fits, q), search (needs, q)))),
+      ),
+    )
 
 same-length-6 : tie.Need-same-length-6
 same-length-6 c = search (needs, plan-exits)
@@ -59,11 +68,20 @@ same-length-6 c = search (needs, plan-exits)
 same-length-7 : tie.Need-same-length-7
 same-length-7 c = search (needs, plan-exits)
 
+returns-3 : tie.Need-returns-3
+returns-3 c = search (needs, plan-exits)
+
 same-length-8 : tie.Need-same-length-8
 same-length-8 c = search (needs, plan-exits)
 
-returns-3 : tie.Need-returns-3
-returns-3 c = let q = c .before .before .before .before .before .before .before .before .before .before .before .before .before .before .before .before .before .before .before .before .before .before .before .before .before .before .before .before .pre in (search (needs, planned-told, q), search (needs, planned-written, q))
+same-length-9 : tie.Need-same-length-9
+same-length-9 c = search (needs, plan-exits)
+
+same-length-10 : tie.Need-same-length-10
+same-length-10 c = search (needs, plan-exits)
+
+returns-4 : tie.Need-returns-4
+returns-4 c = let q = c .before .before .before .before .before .before .before .before .before .before .before .before .before .before .before .before .before .before .before .before .before .before .before .before .before .before .pre in (search (needs, planned-told, q), search (needs, planned-written, q))
 
 pub plan-sampled-spec : {M : Type 1} → statement M
 plan-sampled-spec =
@@ -76,12 +94,16 @@ plan-sampled-spec =
     same-length
     same-length-2
     returns
-    planned-requires
+    planned-few-requires
     same-length-3
     same-length-4
-    returns-2
     same-length-5
+    returns-2
+    planned-many-requires
     same-length-6
     same-length-7
+    returns-3
     same-length-8
-    returns-3)
+    same-length-9
+    same-length-10
+    returns-4)

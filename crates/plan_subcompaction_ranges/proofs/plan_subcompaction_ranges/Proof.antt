@@ -1,4 +1,4 @@
--- `plan_subcompaction_ranges::planner::plan_subcompaction_ranges` meets its contract.
+-- `plan_subcompaction_ranges::plan_subcompaction_ranges` meets its contract.
 -- Assumes nothing.
 use Rattle.plan_subcompaction_ranges.proofs.PlanCallExits.{call-exits}
 use borrow.Author.Needs.{needs}

@@ -1,4 +1,4 @@
--- `plan_subcompaction_ranges::planner::raw_size` meets its contract.
+-- `plan_subcompaction_ranges::raw_size` meets its contract.
 -- Assumes nothing.
 use Rattle.plan_subcompaction_ranges.proofs.WithViewExits.{raw-exits}
 use borrow.Author.Needs.{needs}

@@ -1,4 +1,4 @@
--- `plan_subcompaction_ranges::planner::stop_after` meets its contract.
+-- `plan_subcompaction_ranges::stop_after` meets its contract.
 -- Assumes nothing.
 use Rattle.plan_subcompaction_ranges.proofs.PlannerExits.{stop-exits}
 use borrow.Author.Needs.{needs}

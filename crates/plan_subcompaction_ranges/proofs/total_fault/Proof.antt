@@ -1,4 +1,4 @@
--- `plan_subcompaction_ranges::planner::total_fault` meets its contract.
+-- `plan_subcompaction_ranges::total_fault` meets its contract.
 -- Assumes nothing.
 use Rattle.plan_subcompaction_ranges.proofs.WithViewExits.{total-exits}
 use borrow.Author.Needs.{needs}

@@ -1,4 +1,4 @@
--- `plan_subcompaction_ranges::planner::with_view` meets its contract.
+-- `plan_subcompaction_ranges::with_view` meets its contract.
 -- Assumes nothing.
 use Rattle.plan_subcompaction_ranges.proofs.WithViewExits.{view-exits, index-there, range-start, range-end, tables-wide, rows-few, total-most}
 use borrow.Author.Needs.{needs}

@@ -1,6 +1,6 @@
 -- `planned::begins` meets its contract.
 -- Assumes nothing.
-use Rattle.planned.proofs.KeyParts.{begins-exits}
+use Rattle.planned.proofs.Tests.{begins-exits}
 use borrow.Author.Needs.{needs}
 use Rattle.planned.proofs.begins.Statement.{statement}
 use Rattle.planned.proofs.begins.Tie as tie

@@ -1,6 +1,6 @@
 -- `planned::end_kind` meets its contract.
 -- Assumes nothing.
-use Rattle.planned.proofs.KeyParts.{end-kind-exits}
+use Rattle.planned.proofs.Tests.{end-kind-exits}
 use borrow.Author.Needs.{needs}
 use Rattle.planned.proofs.end_kind.Statement.{statement}
 use Rattle.planned.proofs.end_kind.Tie as tie

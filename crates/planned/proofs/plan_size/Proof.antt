@@ -1,8 +1,8 @@
 -- `planned::plan_size` meets its contract.
 -- Assumes nothing.
 use Prim.Native.Nat.{_-_}
-use Rattle.planned.proofs.PlanPut.{Sizing, size-exits}
 use borrow.Author.Needs.{needs}
+use Rattle.planned.proofs.PlanPut.{Sizing, size-exits}
 use Rattle.planned.proofs.plan_size.Statement.{statement}
 use Rattle.planned.proofs.plan_size.Tie as tie
 
@@ -15,14 +15,14 @@ abbrev μ-loop : tie.MeasureT-loop
 loop-holds : tie.Need-loop-holds Inv-loop μ-loop
 loop-holds c = search (needs, size-exits)
 
-mul-key-there : tie.Need-mul-key-there Inv-loop μ-loop
-mul-key-there c = search (needs, size-exits)
+mul-key-part : tie.Need-mul-key-part Inv-loop μ-loop
+mul-key-part c = search (needs, size-exits)
 
-shared-slice-read-key-there : tie.Need-shared-slice-read-key-there Inv-loop μ-loop
-shared-slice-read-key-there c = search (needs, size-exits)
+shared-slice-read-key-part : tie.Need-shared-slice-read-key-part Inv-loop μ-loop
+shared-slice-read-key-part c = search (needs, size-exits)
 
-key-there-requires : tie.Need-key-there-requires Inv-loop μ-loop
-key-there-requires c κs = search (needs, size-exits)
+key-part-requires : tie.Need-key-part-requires Inv-loop μ-loop
+key-part-requires c κs = search (needs, size-exits)
 
 mul-size : tie.Need-mul-size Inv-loop μ-loop
 mul-size c = search (needs, size-exits)
@@ -52,9 +52,9 @@ plan-size-spec =
     Inv-loop
     μ-loop
     loop-holds
-    mul-key-there
-    shared-slice-read-key-there
-    key-there-requires
+    mul-key-part
+    shared-slice-read-key-part
+    key-part-requires
     mul-size
     add-size
     add-size-2

@@ -1,6 +1,6 @@
 -- `planned::put_joint` meets its contract.
 -- Assumes nothing.
-use Rattle.sorted_keys.specs.Rows.{keyThere}
+use Rattle.key_rows.specs.Rows.{keyThere}
 use Rattle.planned.proofs.PlanPut.{joint-exits, joint-second}
 use borrow.Author.Needs.{needs}
 use Rattle.planned.proofs.put_joint.Statement.{statement}

@@ -1,6 +1,6 @@
 -- `planned::target_bytes` meets its contract.
 -- Assumes nothing.
-use Rattle.planned.proofs.KeyParts.{target-exits}
+use Rattle.planned.proofs.Tests.{target-exits}
 use borrow.Author.Needs.{needs}
 use Rattle.planned.proofs.target_bytes.Statement.{statement}
 use Rattle.planned.proofs.target_bytes.Tie as tie

@@ -1,4 +1,4 @@
--- `sample_anchors::sample::answered` meets its contract.
+-- `sample_anchors::answered` meets its contract.
 -- Assumes nothing.
 use Rattle.sample_anchors.proofs.CallExits.{rows-there, rows-sized, rows-most, most-anchors, answered-exits}
 use borrow.Author.Needs.{needs}

@@ -1,4 +1,4 @@
--- `sample_anchors::sample::answered_from` meets its contract.
+-- `sample_anchors::answered_from` meets its contract.
 -- Assumes nothing.
 use Rattle.sampled.proofs.SampleExits.{index-room}
 use Rattle.sample_anchors.proofs.CallExits.{few-anchors, most-anchors}

@@ -1,4 +1,4 @@
--- `sample_anchors::sample::sample_anchors` meets its contract.
+-- `sample_anchors::sample_anchors` meets its contract.
 -- Assumes nothing.
 use Rattle.sample_anchors.proofs.CallExits.{index-stops-reported, index-stops-lent, range-stops-reported, range-stops-lent, range-fails-reported, range-fails-lent, order-fails-reported, order-fails-lent, start-inside, end-inside, index-got, call-exits}
 use borrow.Author.Needs.{needs}

@@ -1,4 +1,4 @@
--- `sampled::sample::beginning` meets its contract.
+-- `sampled::beginning` meets its contract.
 -- Assumes nothing.
 use Rattle.sampled.proofs.GroupExits.{beginning-exits}
 use borrow.Author.Needs.{needs}

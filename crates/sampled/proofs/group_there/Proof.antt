@@ -1,4 +1,4 @@
--- `sampled::sample::group_there` meets its contract.
+-- `sampled::group_there` meets its contract.
 -- Assumes nothing.
 use Rattle.sampled.proofs.GroupExits.{group-exits}
 use borrow.Author.Needs.{needs}

@@ -1,4 +1,4 @@
--- `sampled::sample::lesser` meets its contract.
+-- `sampled::lesser` meets its contract.
 -- Assumes nothing.
 use Rattle.sampled.proofs.GroupExits.{lesser-exits}
 use borrow.Author.Needs.{needs}

@@ -1,4 +1,4 @@
--- `sampled::sample::sample` meets its contract.
+-- `sampled::sample` meets its contract.
 -- Assumes nothing.
 use Rattle.format.specs.Range.{rangeIn}
 use Rattle.subcompaction.specs.Tables.{indexThere}

@@ -1,4 +1,4 @@
--- `sampled::sample::stride` meets its contract.
+-- `sampled::stride` meets its contract.
 -- Assumes nothing.
 use Rattle.sampled.proofs.GroupExits.{stride-exits}
 use borrow.Author.Needs.{needs}

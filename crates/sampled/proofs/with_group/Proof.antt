@@ -1,4 +1,4 @@
--- `sampled::sample::with_group` meets its contract.
+-- `sampled::with_group` meets its contract.
 -- Assumes nothing.
 use Rattle.sampled.proofs.SampleExits.{row-put, row-not-put}
 use borrow.Author.Needs.{needs}

@@ -1,4 +1,4 @@
--- `sampled::sample::with_row` meets its contract.
+-- `sampled::with_row` meets its contract.
 -- Assumes nothing.
 use Rattle.sampled.proofs.SampleExits.{row-exits}
 use borrow.Author.Needs.{needs}

@@ -1,4 +1,4 @@
--- `select_boundaries::anchors::anchors_read` meets its contract.
+-- `select_boundaries::anchors_read` meets its contract.
 -- Assumes nothing.
 use Rattle.select_boundaries.proofs.AnchorExits.{tabling-exits, Tabling}
 use Prim.Native.Nat.{_-_}

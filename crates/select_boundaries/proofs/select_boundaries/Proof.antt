@@ -1,4 +1,4 @@
--- `select_boundaries::anchors::select_boundaries` meets its contract.
+-- `select_boundaries::select_boundaries` meets its contract.
 -- Assumes nothing.
 use Rattle.select_boundaries.proofs.SelectExits.{select-exits}
 use borrow.Author.Needs.{needs}

@@ -1,7 +1,7 @@
--- `select_boundaries::anchors::selected_with` meets its contract.
+-- `select_boundaries::selected_with` meets its contract.
 -- Assumes nothing.
-use Rattle.select_boundaries.proofs.SelectExits.{selected-exits}
 use borrow.Author.Needs.{needs}
+use Rattle.select_boundaries.proofs.SelectExits.{selected-exits}
 use Rattle.select_boundaries.proofs.selected_with.Statement.{statement}
 use Rattle.select_boundaries.proofs.selected_with.Tie as tie
 
@@ -23,8 +23,8 @@ same-length-2 c = search (needs, selected-exits)
 returns : tie.Need-returns
 returns c = search (needs, selected-exits)
 
-planned-requires : tie.Need-planned-requires
-planned-requires c κs = (search (needs, selected-exits), (search (needs, selected-exits), (search (needs, selected-exits), (search (needs, selected-exits), (search (needs, selected-exits), (search (needs, selected-exits), search (needs, selected-exits)))))))
+planned-few-requires : tie.Need-planned-few-requires
+planned-few-requires c κs = (search (needs, selected-exits), (search (needs, selected-exits), (search (needs, selected-exits), (search (needs, selected-exits), (search (needs, selected-exits), search (needs, selected-exits))))))
 
 same-length-3 : tie.Need-same-length-3
 same-length-3 c = search (needs, selected-exits)
@@ -35,11 +35,14 @@ same-length-4 c = search (needs, selected-exits)
 same-length-5 : tie.Need-same-length-5
 same-length-5 c = search (needs, selected-exits)
 
-same-length-6 : tie.Need-same-length-6
-same-length-6 c = search (needs, selected-exits)
-
 returns-2 : tie.Need-returns-2
 returns-2 c = search (needs, selected-exits)
+
+planned-many-requires : tie.Need-planned-many-requires
+planned-many-requires c κs = (search (needs, selected-exits), (search (needs, selected-exits), (search (needs, selected-exits), (search (needs, selected-exits), (search (needs, selected-exits), search (needs, selected-exits))))))
+
+same-length-6 : tie.Need-same-length-6
+same-length-6 c = search (needs, selected-exits)
 
 same-length-7 : tie.Need-same-length-7
 same-length-7 c = search (needs, selected-exits)
@@ -59,6 +62,15 @@ same-length-10 c = search (needs, selected-exits)
 returns-4 : tie.Need-returns-4
 returns-4 c = search (needs, selected-exits)
 
+same-length-11 : tie.Need-same-length-11
+same-length-11 c = search (needs, selected-exits)
+
+same-length-12 : tie.Need-same-length-12
+same-length-12 c = search (needs, selected-exits)
+
+returns-5 : tie.Need-returns-5
+returns-5 c = search (needs, selected-exits)
+
 pub selected-with-spec : {M : Type 1} → statement M
 selected-with-spec =
     tie.close
@@ -69,15 +81,19 @@ selected-with-spec =
     same-length
     same-length-2
     returns
-    planned-requires
+    planned-few-requires
     same-length-3
     same-length-4
     same-length-5
-    same-length-6
     returns-2
+    planned-many-requires
+    same-length-6
     same-length-7
     same-length-8
     returns-3
     same-length-9
     same-length-10
-    returns-4)
+    returns-4
+    same-length-11
+    same-length-12
+    returns-5)

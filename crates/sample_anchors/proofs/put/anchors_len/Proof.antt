@@ -1,8 +1,8 @@
 -- `sample_anchors::put::anchors_len` meets its contract.
 -- Assumes nothing.
 use Prim.Native.Nat.{_-_}
-use Rattle.sample_anchors.proofs.PutExits.{Measured, len-exits}
 use borrow.Author.Needs.{needs}
+use Rattle.sample_anchors.proofs.PutExits.{Measured, len-exits}
 use Rattle.sample_anchors.proofs.put.anchors_len.Statement.{statement}
 use Rattle.sample_anchors.proofs.put.anchors_len.Tie as tie
 
@@ -15,14 +15,14 @@ abbrev μ-loop : tie.MeasureT-loop
 loop-holds : tie.Need-loop-holds Inv-loop μ-loop
 loop-holds c = search (needs, len-exits)
 
-mul-key-there : tie.Need-mul-key-there Inv-loop μ-loop
-mul-key-there c = search (needs, len-exits)
+mul-key-part : tie.Need-mul-key-part Inv-loop μ-loop
+mul-key-part c = search (needs, len-exits)
 
-shared-slice-read-key-there : tie.Need-shared-slice-read-key-there Inv-loop μ-loop
-shared-slice-read-key-there c = search (needs, len-exits)
+shared-slice-read-key-part : tie.Need-shared-slice-read-key-part Inv-loop μ-loop
+shared-slice-read-key-part c = search (needs, len-exits)
 
-key-there-requires : tie.Need-key-there-requires Inv-loop μ-loop
-key-there-requires c κs = search (needs, len-exits)
+key-part-requires : tie.Need-key-part-requires Inv-loop μ-loop
+key-part-requires c κs = search (needs, len-exits)
 
 add-len : tie.Need-add-len Inv-loop μ-loop
 add-len c = search (needs, len-exits)
@@ -49,9 +49,9 @@ anchors-len-spec =
     Inv-loop
     μ-loop
     loop-holds
-    mul-key-there
-    shared-slice-read-key-there
-    key-there-requires
+    mul-key-part
+    shared-slice-read-key-part
+    key-part-requires
     add-len
     add-len-2
     add-row

@@ -1,0 +1,4 @@
+pub mod KeyParts
+pub mod RowLaws
+pub mod HeadLaws
+pub mod HeadExits
