@@ -9,3 +9,4 @@ pub mod SortLaws
 pub mod SortMore
 pub mod StableSort
 pub mod StableSortLaws
+pub mod Rows

@@ -1,0 +1,16 @@
+// The tables that a commit's stages hand on, some numbers to a row: the gaps between durable intervals, the parts of the job,
+// and the views of the new image.
+mod bounds;
+mod gaps;
+mod parts;
+mod rows;
+
+pub use gaps::gap_row;
+pub use gaps::put_gap;
+pub use parts::PartSpan;
+pub use parts::part_row;
+pub use parts::put_part;
+pub use rows::Form;
+pub use rows::Row;
+pub use rows::put_row;
+pub use rows::row_at;
