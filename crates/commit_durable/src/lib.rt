@@ -1,0 +1,4 @@
+// What of a job is durable: its parts with their intervals, and the gaps between these.
+mod gaps;
+
+pub use gaps::gap_at;
