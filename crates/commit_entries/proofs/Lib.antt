@@ -1,0 +1,2 @@
+pub mod RowExits
+pub mod Planning
