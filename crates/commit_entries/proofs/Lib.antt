@@ -1,2 +1,4 @@
 pub mod RowExits
 pub mod Planning
+pub mod Standing
+pub mod RowBytes

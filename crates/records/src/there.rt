@@ -5,7 +5,7 @@ use comparable_range::Kind;
 use format::BoundSpan;
 use format::KeySpan;
 ghost use mathlib.Core.Path.{_≡_};
-ghost use Prim.Native.Nat.{_≤_, _/_};
+ghost use Prim.Native.Nat.{_≤_, _+_, _/_};
 ghost use lib.ListN.{length, drop};
 ghost use lib.Dec.{T, eqb};
 ghost use Rattle.format.specs.Got.{isGot};
@@ -86,10 +86,11 @@ pub fn table_there(s: &[u8], at: usize) -> TableSpan
     }
 }
 
-// The view at a place.
+// The view at a place, and its table.
 pub fn view_there(s: &[u8], at: usize) -> ViewSpan
     requires { ⌜ T (isGot (view .read (drop at (now s)))) ⌝ }
     ensures { λ r. ⌜ ViewThere (now (s .entry)) (view .read (drop at (now (s .entry)))) r ⌝ }
+    ensures { λ r. ⌜ TableThere (now (s .entry)) (table .read (drop (at + 16) (now (s .entry)))) (r .table) ⌝ }
 {
     let table = table_there(s, at + 16);
     let p = table.past;

@@ -1,0 +1,2 @@
+pub mod OutputExits
+pub mod PartExits

@@ -1,0 +1,150 @@
+// What of an output is published, and its row.
+use commit_entries::Plan;
+use commit_entries::add_cut;
+use commit_entries::add_row;
+use commit_rows::Form;
+use commit_rows::PartSpan;
+use commit_rows::Row;
+use comparable_range::Kind;
+use format::BoundSpan;
+use format::span::RangeSpan;
+use records::TableSpan;
+use records::ViewId;
+ghost use mathlib.Core.Path.{_≡_};
+ghost use Prim.Native.Nat.{_≤_, _+_};
+ghost use lib.ListN.{length, take, drop};
+ghost use Rattle.base.specs.Bytes.{Bytes};
+ghost use Rattle.comparable_range.specs.Range.{nonEmpty, overlap};
+ghost use Rattle.format.specs.Range.{BoundInside};
+ghost use Rattle.records.specs.Layouts.{table};
+ghost use Rattle.records.specs.Spans.{keyIn, tableIn, TableInside};
+ghost use Rattle.records.specs.There.{TableThere};
+ghost use Rattle.manifest.specs.Ranges.{own};
+ghost use Rattle.incremental_progress.specs.Intervals.{toRange};
+ghost use Rattle.incremental_progress.specs.Parts.{isKey};
+ghost use Rattle.commit_durable.specs.Tables.{intervalIn, openIn};
+ghost use Rattle.commit_entries.specs.Planned.{PlanReady};
+ghost use Rattle.commit_outputs.specs.Outputs.{IntervalHeld, insideAs, publishedAs, entriesIn, PlannedIn};
+
+// What is published of an output: nothing, all of it, or what lies in the interval.
+pub enum Published {
+    Left,
+    Whole,
+    Cut,
+}
+
+// Whether something of an output lies in the interval.
+fn some_inside(job: &[u8], t: TableSpan, h: PartSpan) -> bool
+    requires { ⌜ TableInside (now job) t ⌝ ∗ ⌜ IntervalHeld (now job) h ⌝ }
+    ensures { λ r. ⌜ r ≡ nonEmpty (overlap (own (tableIn (now (job .entry)) t)) (toRange (intervalIn (now (job .entry)) (h .start) (h .end)))) ⌝ }
+{
+    let own = RangeSpan {
+        start: manifest::own_start(t),
+        end: manifest::own_end(t),
+    };
+    let start = h.start;
+    let end = h.end;
+    format::span::meets(job, own, job, RangeSpan { start, end })
+}
+
+// Whether an output's last key is the key of a bound.
+fn ends_at(job: &[u8], t: TableSpan, b: BoundSpan) -> bool
+    requires { ⌜ TableInside (now job) t ⌝ ∗ ⌜ BoundInside (now job) b ⌝ }
+    ensures { λ r. ⌜ r ≡ isKey (tableIn (now (job .entry)) t .last) (keyIn (now (job .entry)) (b .at) (b .len)) ⌝ }
+{
+    if t.flagged {
+        let last = BoundSpan {
+            kind: Kind::Included,
+            at: t.last_at,
+            len: t.last_len,
+        };
+        return key::is_equal(key::cmp(format::key_of(job, last), format::key_of(job, b)));
+    }
+    false
+}
+
+// What is published of an output that ends at the last written key.
+fn inside_as(job: &[u8], t: TableSpan, h: PartSpan) -> Published
+    requires { ⌜ TableInside (now job) t ⌝ ∗ ⌜ IntervalHeld (now job) h ⌝ }
+    ensures { λ r. ⌜ r ≡ insideAs (intervalIn (now (job .entry)) (h .start) (h .end)) (tableIn (now (job .entry)) t) ⌝ }
+{
+    if some_inside(job, t, h) {
+        return Published::Cut;
+    }
+    Published::Left
+}
+
+// What is published of an output: if its part is not completed, the interval ends at the last written key, and the outputs
+// that end there are cut.
+fn published_as(job: &[u8], t: TableSpan, h: PartSpan) -> Published
+    requires { ⌜ TableInside (now job) t ⌝ ∗ ⌜ IntervalHeld (now job) h ⌝ }
+    ensures { λ r. ⌜ r ≡ publishedAs (openIn (now (job .entry)) h) (intervalIn (now (job .entry)) (h .start) (h .end)) (tableIn (now (job .entry)) t) ⌝ }
+{
+    if h.completed {
+        return Published::Whole;
+    }
+    if ends_at(job, t, h.end) {
+        return inside_as(job, t, h);
+    }
+    Published::Whole
+}
+
+// The id of the view that publishes the output at a place.
+fn published_id(job: &[u8], at: usize) -> ViewId
+    requires { ⌜ at + 16 ≤ length (now job) ⌝ }
+    ensures { λ r. ⌜ r .0 ≡ take 16 (drop at (now (job .entry))) ⌝ }
+{
+    commit_ids::publishing_id(records::table_id_at(job, at))
+}
+
+// The output at a place of the job, in a bucket.
+pub fn plan_output(
+    job: &[u8],
+    ids: &[u8],
+    rows: &mut [usize],
+    at: usize,
+    t: TableSpan,
+    h: PartSpan,
+    bucket: usize,
+    p: Plan,
+) -> Plan
+    requires { ⌜ length (now job) ≤ 262144 ⌝ ∗ ⌜ Bytes (now job) ⌝ ∗ ⌜ at ≤ length (now job) ⌝ ∗ ⌜ TableThere (now job) (table .read (drop at (now job))) t ⌝ }
+    requires { ⌜ IntervalHeld (now job) h ⌝ ∗ ⌜ PlanReady (now ids) 1099511627776 p ⌝ }
+    ensures { λ q. ⌜ PlannedIn (now (job .entry)) (now (ids .entry)) (entriesIn (now (job .entry)) h (tableIn (now (job .entry)) t)) bucket p (now (rows .entry)) q (now (rows .exit)) ⌝ }
+{
+    let none = BoundSpan {
+        kind: Kind::Unbounded,
+        at: 0,
+        len: 0,
+    };
+    let start = h.start;
+    let end = h.end;
+    let past = t.past;
+    match published_as(job, t, h) {
+        Published::Left => p,
+        Published::Whole => {
+            let row = Row {
+                form: Form::Output,
+                bucket,
+                at,
+                past,
+                start: none,
+                end: none,
+                ten: 0,
+            };
+            add_row(rows, p, row)
+        }
+        Published::Cut => {
+            let row = Row {
+                form: Form::CutOutput,
+                bucket,
+                at,
+                past,
+                start,
+                end,
+                ten: 0,
+            };
+            add_cut(published_id(job, at), ids, rows, p, row)
+        }
+    }
+}
