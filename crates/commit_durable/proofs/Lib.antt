@@ -1,1 +1,3 @@
+pub mod OutputExits
+pub mod Steps
 pub mod TableExits
