@@ -31,7 +31,7 @@ use Rattle.manifest.proofs.Steps.{tables-none, tables-more}
 use Rattle.incremental_progress.specs.Checks.{endsBy, lastCut, outputsFrom}
 use Rattle.incremental_progress.specs.Parts.{lastWritten}
 use Rattle.commit_durable.specs.Faults.{outputBetween}
-use Rattle.commit_durable.specs.Answers.{outputMore, lastIn, LastInside, OutputsTold, OutputsFound}
+use Rattle.commit_durable.specs.Answers.{outputMore, lastIn, LastInside, OutputsTold, OutputsPassed}
 use Rattle.commit_durable.specs.declared.outputs.Outputs.{Outputs}
 use Rattle.commit_durable.specs.declared.outputs.OutputsRead.the-variants.{At, Stop}
 use Rattle.commit_durable.proofs.Steps.{starts-by-cuts, ends-by-cuts, cutPast, past-more, outputCut, outputs-more}
@@ -150,11 +150,11 @@ module _ {s : List ℕ} {from n : ℕ} {planned : RangeSpan} {left : ℕ} {befor
   pub start-in : BoundInside s before
   start-in = p .before-in
 
-  pub outputs-end : left ≤ 0 → OutputsFound s (readMany (table .read) n (drop from s)) planned (At o)
+  pub outputs-end : left ≤ 0 → OutputsPassed s (readMany (table .read) n (drop from s)) planned (At o)
   outputs-end h = record { is = record { tables = p .seen; is = all-read (p .reading) h; told = p .told } }
 
   module _ (h : 0 < left) {r : TableRead} (f : TableFound s (table .read (drop (o .past) s)) r) where
-    pub outputs-stop : {k : ℕ} → r ≡ TableStop k → OutputsFound s (readMany (table .read) n (drop from s)) planned (Stop k)
+    pub outputs-stop : {k : ℕ} → r ≡ TableStop k → OutputsPassed s (readMany (table .read) n (drop from s)) planned (Stop k)
     outputs-stop {k} q = record { is = stopped (p .reading) {k = k} h (sym (f .meaning) ∙ rw q) }
 
     module _ {t : TableSpan} (q : r ≡ TableAt t) where

@@ -20,7 +20,7 @@ ghost use Rattle.records.specs.Layouts.{table};
 ghost use Rattle.records.specs.Spans.{tableIn, TableInside};
 ghost use Rattle.manifest.specs.Faults.{faultOf, tableChecks};
 ghost use Rattle.commit_durable.specs.Faults.{outputBetween};
-ghost use Rattle.commit_durable.specs.Answers.{outputMore, OutputsFound};
+ghost use Rattle.commit_durable.specs.Answers.{outputMore, OutputsPassed};
 
 pub fn both(a: bool, b: bool) -> bool
     ensures { λ r. ⌜ r ≡ (a && b) ⌝ }
@@ -93,7 +93,7 @@ pub enum OutputsRead {
 // The n outputs of a part with a planned range.
 pub fn outputs_read(job: &[u8], from: usize, n: usize, planned: RangeSpan) -> OutputsRead
     requires { ⌜ from ≤ length (now job) ⌝ ∗ ⌜ BoundInside (now job) (planned .start) ⌝ ∗ ⌜ BoundInside (now job) (planned .end) ⌝ }
-    ensures { λ r. ⌜ OutputsFound (now (job .entry)) (readMany (table .read) n (drop from (now (job .entry)))) planned r ⌝ }
+    ensures { λ r. ⌜ OutputsPassed (now (job .entry)) (readMany (table .read) n (drop from (now (job .entry)))) planned r ⌝ }
 {
     let mut left = n;
     let mut before = planned.start;
