@@ -7,6 +7,7 @@ mod jobs;
 mod ranges;
 
 pub use anchors::added;
+pub use checks::keys_in_order;
 pub use checks::lesser;
 pub use checks::size_passes;
 pub use images::Judged;
