@@ -89,7 +89,7 @@ pub after-cut : (o : Option Key) → cutOf (gapFrom o) ≡ endCut (endBound o)
 after-cut none = refl
 after-cut (some x) = refl
 
-first-≼ : (x : Key) → before [] ≼ before x
+pub first-≼ : (x : Key) → before [] ≼ before x
 unfolding cutAtMost cmpCut cmpNumber cmpKey
 first-≼ [] = record { holds = refl }
 first-≼ (b ∷ x) = record { holds = refl }

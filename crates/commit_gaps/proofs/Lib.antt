@@ -1,0 +1,5 @@
+pub mod Passing
+pub mod InOrder
+pub mod MeetExits
+pub mod NextExits
+pub mod Uses
