@@ -6,3 +6,4 @@ pub mod Tally
 pub mod Summing
 pub mod Slots
 pub mod Placing
+pub mod Placed
