@@ -1,6 +1,6 @@
 -- The exits of the functions that read and write rows, and that what was written is read again.
 -- Assumes nothing.
-use Prim.Native.Nat.{ℕ, _+_, _*_, _≤_, _<_, _^_}
+use Prim.Native.Nat.{ℕ, zero, suc, _+_, _*_, _≤_, _<_, _^_}
 use native.Mathlib.Omega.{arith}
 use native.Mathlib.Nat.{add-zero}
 use mathlib.Core.Path.{_≡_, refl, sym, ap, _∙_}
@@ -18,11 +18,14 @@ use Rattle.comparable_range.specs.declared.Side.the-variants.{First, Second}
 use Rattle.format.specs.Range.{kindOf, kindNumber}
 use Rattle.format.specs.declared.range.BoundSpan.{BoundSpan}
 use Rattle.format.specs.declared.span.RangeSpan.{RangeSpan}
-use Rattle.commit_rows.specs.Numbers.{spanAt, boundNumbers, gapOf, gapNumbers, bitOf, partOf, partNumbers, formOf, formNumber, rowOf, rowNumbers}
+use Rattle.commit_rows.specs.Numbers.{spanAt, boundNumbers, gapOf, gapNumbers, bitOf, partOf, partNumbers, formOf, formNumber, rowOf, rowNumbers, runKindOf, runKindNumber, runOf, runNumbers}
 use Rattle.commit_rows.specs.declared.parts.PartSpan.{PartSpan}
 use Rattle.commit_rows.specs.declared.rows.Form.{Form}
 use Rattle.commit_rows.specs.declared.rows.Form.the-variants.{Whole, Output, CutOutput, Cut}
 use Rattle.commit_rows.specs.declared.rows.Row.{Row}
+use Rattle.commit_rows.specs.declared.runs.RunKind.{RunKind}
+use Rattle.commit_rows.specs.declared.runs.RunKind.the-variants.{Other, Source, Destination}
+use Rattle.commit_rows.specs.declared.runs.RunRow.{RunRow}
 
 abbrev made : ℕ → ℕ → ℕ → BoundSpan
 made k a l = record { kind = kindOf k; at = a; len = l }
@@ -201,6 +204,65 @@ module _ (t : List ℕ) (k : ℕ) (h : k * 11 + 11 ≤ length t) where
 
 pub ruleset row-exits = (row-front-room, row-start-room, row-end-room, row-fits, row-read, row-start-put-room, row-end-put-room, row-ten-in, row-same, row-put)
 
+-- ---- runs
+pub other-kind : (n : ℕ) → (n ≡ 0 → ⊥) → (n ≡ 1 → ⊥) → Destination ≡ runKindOf n
+other-kind zero h k = absurd (h refl)
+other-kind (suc zero) h k = absurd (k refl)
+other-kind (suc (suc n)) h k = refl
+
+module _ (t : List ℕ) (k : ℕ) (h : k * 6 + 6 ≤ length t) where
+  pub run-front-room : k * 6 + 4 ≤ length t
+  run-front-room = omega arith
+
+  pub run-fits : length t < 2 ^ 64 → Fits w64 (k * 6)
+  run-fits l = omega arith
+
+  pub run-read :
+      {o : RunKind}
+      → o ≡ runKindOf (getD t (k * 6 + 4) 0)
+      → record { id = getD t (k * 6) 0; views = getD t (k * 6 + 1) 0; first = getD t (k * 6 + 2) 0; past = getD t (k * 6 + 3) 0; kind = o; rows = getD t (k * 6 + 5) 0 }
+      ≡ runOf (rowAt 6 k t)
+  run-read q =
+      let z : k * 6 + 0 ≡ k * 6 = omega arith in
+      rw (
+        q,
+        row-number 6 k 0 t (omega arith),
+        z,
+        row-number 6 k 1 t (omega arith),
+        row-number 6 k 2 t (omega arith),
+        row-number 6 k 3 t (omega arith),
+        row-number 6 k 4 t (omega arith),
+        row-number 6 k 5 t (omega arith),
+      )
+
+  module _ (r : RunRow) {n : ℕ} (x : n ≡ runKindNumber (r .kind)) {u : List ℕ} (e : u ≡ splice t (k * 6) (r .id ∷ r .views ∷ r .first ∷ r .past ∷ [])) where
+    run-front-same : length u ≡ length t
+    run-front-same = ap length e ∙ length-splice t (k * 6) (r .id ∷ r .views ∷ r .first ∷ r .past ∷ []) (omega arith)
+
+    pub run-kind-in : k * 6 + 4 < length u
+    run-kind-in = omega (arith, run-front-same)
+
+    pub run-rows-in : k * 6 + 5 < length (set u (k * 6 + 4) n)
+    run-rows-in = rw length-set (omega (arith, run-front-same))
+
+    pub run-same : length (set (set u (k * 6 + 4) n) (k * 6 + 5) (r .rows)) ≡ length t
+    run-same = simp length-set run-front-same
+
+    pub run-put : set (set u (k * 6 + 4) n) (k * 6 + 5) (r .rows) ≡ splice t (k * 6) (runNumbers r)
+    run-put =
+        let front = r .id ∷ r .views ∷ r .first ∷ r .past ∷ [] in
+        let five : set u (k * 6 + 4) n ≡ splice t (k * 6) (front ++ (n ∷ []))
+        = set-is-splice u (k * 6 + 4) n run-kind-in
+        ∙ ap (λ (l : List ℕ). splice l (k * 6 + 4) (n ∷ [])) e
+        ∙ splice-splice t (k * 6) front (n ∷ []) (k * 6 + 4) refl (omega arith) in
+        let all : set (set u (k * 6 + 4) n) (k * 6 + 5) (r .rows) ≡ splice t (k * 6) (front ++ (n ∷ []) ++ (r .rows ∷ []))
+        = set-is-splice (set u (k * 6 + 4) n) (k * 6 + 5) (r .rows) run-rows-in
+        ∙ ap (λ (l : List ℕ). splice l (k * 6 + 5) (r .rows ∷ [])) five
+        ∙ splice-splice t (k * 6) (front ++ (n ∷ [])) (r .rows ∷ []) (k * 6 + 5) refl (omega arith) in
+        rw (← x) all
+
+pub ruleset run-exits = (other-kind, run-front-room, run-fits, run-read, run-kind-in, run-rows-in, run-same, run-put)
+
 -- ---- what was written is read again
 kind-back : (k : Kind) → kindOf (kindNumber k) ≡ k
 kind-back Unbounded = refl
@@ -231,3 +293,11 @@ part-back p = rw (span-back (p .start), span-back (p .end), bit-back (p .durable
 
 pub row-back : (r : Row) → rowOf (rowNumbers r) ≡ r
 row-back r = rw (span-back (r .start), span-back (r .end), form-back (r .form))
+
+run-kind-back : (k : RunKind) → runKindOf (runKindNumber k) ≡ k
+run-kind-back Other = refl
+run-kind-back Source = refl
+run-kind-back Destination = refl
+
+pub run-back : (r : RunRow) → runOf (runNumbers r) ≡ r
+run-back r = rw (run-kind-back (r .kind))

@@ -1,4 +1,4 @@
--- Bounds, gaps, parts and views as numbers of a row, and back.
+-- Bounds, gaps, parts, runs and views as numbers of a row, and back.
 use Prim.Native.Nat.{ℕ, zero, suc, _+_}
 use mathlib.Core.Bool.{Bool, true, false}
 use mathlib.Core.List.{List, [], _∷_, _++_}
@@ -14,6 +14,9 @@ use Rattle.commit_rows.specs.declared.parts.PartSpan.{PartSpan}
 use Rattle.commit_rows.specs.declared.rows.Form.{Form}
 use Rattle.commit_rows.specs.declared.rows.Form.the-variants.{Whole, Output, CutOutput, Cut}
 use Rattle.commit_rows.specs.declared.rows.Row.{Row}
+use Rattle.commit_rows.specs.declared.runs.RunKind.{RunKind}
+use Rattle.commit_rows.specs.declared.runs.RunKind.the-variants.{Other, Source, Destination}
+use Rattle.commit_rows.specs.declared.runs.RunRow.{RunRow}
 
 -- ---- a bound: kind, place and length
 abbrev pub spanAt : ℕ → List ℕ → BoundSpan
@@ -46,6 +49,31 @@ partOf row =
 
 abbrev pub partNumbers : PartSpan → List ℕ
 partNumbers p = (bitOf (p .durable) ∷ bitOf (p .completed) ∷ p .outputs ∷ p .first ∷ []) ++ (boundNumbers (p .start) ++ boundNumbers (p .end))
+
+-- ---- a run of the old image
+abbrev pub runKindOf : ℕ → RunKind
+runKindOf zero = Other
+runKindOf (suc zero) = Source
+runKindOf (suc (suc n)) = Destination
+
+abbrev pub runKindNumber : RunKind → ℕ
+runKindNumber Other = 0
+runKindNumber Source = 1
+runKindNumber Destination = 2
+
+abbrev pub runOf : List ℕ → RunRow
+runOf row =
+    record {
+      id = getD row 0 0;
+      views = getD row 1 0;
+      first = getD row 2 0;
+      past = getD row 3 0;
+      kind = runKindOf (getD row 4 0);
+      rows = getD row 5 0;
+    }
+
+abbrev pub runNumbers : RunRow → List ℕ
+runNumbers r = r .id ∷ r .views ∷ r .first ∷ r .past ∷ runKindNumber (r .kind) ∷ r .rows ∷ []
 
 -- ---- a view of the new image
 abbrev pub formOf : ℕ → Form

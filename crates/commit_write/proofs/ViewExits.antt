@@ -1,0 +1,475 @@
+-- The exits of the functions that put the bytes of a row.
+-- Assumes nothing.
+use Prim.Native.Nat.{ℕ, _+_, _-_, _≤_, _<_, _^_}
+use native.Mathlib.Omega.{arith}
+use mathlib.Core.Path.{_≡_, refl, sym, ap, subst, _∙_}
+use mathlib.Core.List.{List, [], _∷_, _++_, append-assoc}
+use lib.ListN.{length, take, drop, length-append, length-drop}
+use lib.Seq.{length-take-le}
+use mir.Val.{Fits}
+use mir.Syntax.{w64}
+use Rattle.base.specs.Splice.{splice, splice-none, length-splice, splice-splice}
+use Rattle.key.specs.Order.{Key}
+use Rattle.comparable_range.specs.Range.{Range, of, boundOf, rangeOf}
+use Rattle.comparable_range.specs.declared.Kind.{Kind}
+use Rattle.comparable_range.specs.declared.Kind.the-variants.{Unbounded, Included, Excluded}
+use Rattle.comparable_range.specs.declared.Side.{Side}
+use Rattle.comparable_range.specs.declared.Side.the-variants.{First, Second}
+use Rattle.format.specs.Number.{writeNumber}
+use Rattle.format.specs.Key.{writeKey}
+use Rattle.format.specs.Range.{headByte, kindOfBound, boundIn, BoundInside, writeBound, writeRange}
+use Rattle.format.specs.declared.range.BoundSpan.{BoundSpan}
+use Rattle.format.proofs.Layouts.{number-length, key-length}
+use Rattle.commit_rows.specs.Bytes.{between, newIdBytes, cutBytes, wholeBytes, rowRange, startIn, endIn, RowInside, rowBytes, boundLength, rangeLength, bytesAs, lengthAs, rowLength, sourceOf, TenInside}
+use Rattle.commit_rows.specs.declared.rows.Form.{Form}
+use Rattle.commit_rows.specs.declared.rows.Form.the-variants.{Whole, Output, CutOutput, Cut}
+use Rattle.commit_rows.specs.declared.rows.Row.{Row}
+use Rattle.commit_write.specs.Put.{Put, sidedRange}
+use Rattle.commit_write.proofs.Pieces.{put-here, put-none, put-same, put-length, first-room, second-room, both-put, both-length, one-room, two-room, three-room, all-put, all-length}
+
+pub between-length : (s : List ℕ) (a b : ℕ) → b ≤ length s → length (between s a b) ≡ b - a
+between-length s a b h = length-take-le (b - a) (drop a s) (rw length-drop (omega arith))
+
+-- ---- put_new_id
+module _ (d : List ℕ) (to : ℕ) (s : List ℕ) (id : ℕ) (ids : List ℕ) (ten : ℕ) (room : to + length (newIdBytes s id ids ten) ≤ length d) where
+  id-roomy : to + length (between s id (id + 6) ++ between ids ten (ten + 10)) ≤ length d
+  unfolding newIdBytes
+  id-roomy = room
+
+  pub time-room : to + length (between s id (id + 6)) ≤ length d
+  time-room = first-room d to (between s id (id + 6)) (between ids ten (ten + 10)) id-roomy
+
+  module _ {e : List ℕ} {a : ℕ} (p : Put d to (between s id (id + 6)) e a) where
+    pub ten-room : a + length (between ids ten (ten + 10)) ≤ length e
+    ten-room = second-room d to (between s id (id + 6)) (between ids ten (ten + 10)) id-roomy p
+
+    module _ {f : List ℕ} {b : ℕ} (q : Put e a (between ids ten (ten + 10)) f b) where
+      pub id-put : Put d to (newIdBytes s id ids ten) f b
+      unfolding newIdBytes
+      id-put = both-put d to (between s id (id + 6)) (between ids ten (ten + 10)) id-roomy p q
+
+      pub id-same : length f ≡ length d
+      id-same = both-length d to (between s id (id + 6)) (between ids ten (ten + 10)) id-roomy p q
+
+pub ruleset id-exits = (time-room, ten-room, id-put, id-same)
+
+-- ---- put_key: the length, and the key
+module _ (d : List ℕ) (to : ℕ) (k : Key) (room : to + length (writeKey k) ≤ length d) where
+  long : length (writeKey k) ≡ 2 + length k
+  long = key-length k
+
+  pub count-room : to + 2 ≤ length d
+  count-room = omega (arith, long, room)
+
+  pub key-fits : length d < 2 ^ 64 → Fits w64 (to + 2 + length k)
+  key-fits h = omega (arith, long, room)
+
+  module _ {e : List ℕ} (p : e ≡ splice d to (writeNumber 2 (length k))) where
+    number-same : length e ≡ length d
+    number-same = let l = number-length 2 (length k) in ap length p ∙ length-splice d to (writeNumber 2 (length k)) (omega (arith, count-room))
+
+    pub bytes-room : to + 2 + length k ≤ length e
+    bytes-room = omega (arith, number-same, long, room)
+
+    module _ {f : List ℕ} (q : f ≡ splice e (to + 2) k) where
+      pub key-put : Put d to (writeKey k) f (to + 2 + length k)
+      unfolding writeKey
+      key-put =
+          let l = number-length 2 (length k) in
+          record {
+            is = q ∙ ap (λ z. splice z (to + 2) k) p ∙ splice-splice d to (writeNumber 2 (length k)) k (to + 2) (omega (arith, l)) (omega (arith, l, count-room));
+            past-is = omega (arith, long);
+          }
+
+      pub key-same : length f ≡ length d
+      key-same = ap length q ∙ length-splice e (to + 2) k bytes-room ∙ number-same
+
+pub ruleset key-exits = (count-room, key-fits, bytes-room, key-put, key-same)
+
+-- ---- put_bound
+module _ (k : Kind) (key : Key) where
+  bound-none : k ≡ Unbounded → [] ≡ writeBound (boundOf k key)
+  unfolding writeBound
+  bound-none e = rw e
+
+  bound-included : k ≡ Included → writeKey key ≡ writeBound (boundOf k key)
+  unfolding writeBound
+  bound-included e = rw e
+
+  bound-excluded : k ≡ Excluded → writeKey key ≡ writeBound (boundOf k key)
+  unfolding writeBound
+  bound-excluded e = rw e
+
+module _ (d : List ℕ) (to : ℕ) (k : Kind) (key : Key) where
+  pub unbounded-put : k ≡ Unbounded → Put d to (writeBound (boundOf k key)) d to
+  unbounded-put e = put-same (put-none d to) (bound-none k key e)
+
+  module _ (room : to + length (writeBound (boundOf k key)) ≤ length d) where
+    pub included-room : k ≡ Included → to + length (writeKey key) ≤ length d
+    included-room e = rw (bound-included k key e) room
+
+    pub excluded-room : k ≡ Excluded → to + length (writeKey key) ≤ length d
+    excluded-room e = rw (bound-excluded k key e) room
+
+    pub bound-same : {f : List ℕ} {b : ℕ} → Put d to (writeBound (boundOf k key)) f b → length f ≡ length d
+    bound-same p = put-length p room
+
+  module _ {f : List ℕ} {b : ℕ} (p : Put d to (writeKey key) f b) where
+    pub included-put : k ≡ Included → Put d to (writeBound (boundOf k key)) f b
+    included-put e = put-same p (bound-included k key e)
+
+    pub excluded-put : k ≡ Excluded → Put d to (writeBound (boundOf k key)) f b
+    excluded-put e = put-same p (bound-excluded k key e)
+
+    pub included-same : k ≡ Included → to + length (writeBound (boundOf k key)) ≤ length d → length f ≡ length d
+    included-same e h = put-length p (included-room h e)
+
+    pub excluded-same : k ≡ Excluded → to + length (writeBound (boundOf k key)) ≤ length d → length f ≡ length d
+    excluded-same e h = put-length p (excluded-room h e)
+
+pub ruleset bound-exits = (unbounded-put, included-room, excluded-room, included-put, excluded-put, included-same, excluded-same)
+
+-- ---- put_range: the flag and the head, and the bounds
+kind-back : (k : Kind) (key : Key) → kindOfBound (boundOf k key) ≡ k
+kind-back Unbounded key = refl
+kind-back Included key = refl
+kind-back Excluded key = refl
+
+module _ (d : List ℕ) (to : ℕ) (ks : Kind) (s : Key) (ke : Kind) (e : Key) (room : to + length (128 ∷ writeRange (rangeOf ks s ke e)) ≤ length d) where
+  abbrev start : List ℕ
+  start = writeBound (boundOf ks s)
+
+  abbrev end : List ℕ
+  end = writeBound (boundOf ke e)
+
+  range-is : 128 ∷ writeRange (rangeOf ks s ke e) ≡ (128 ∷ headByte ks ke ∷ []) ++ (start ++ end)
+  unfolding writeRange
+  range-is = rw (kind-back ks s, kind-back ke e)
+
+  range-roomy : to + length ((128 ∷ headByte ks ke ∷ []) ++ (start ++ end)) ≤ length d
+  range-roomy = subst (λ (z : List ℕ). to + length z ≤ length d) range-is room
+
+  pub flag-room : to < length d
+  flag-room = omega (arith, one-room d to (128 ∷ headByte ks ke ∷ []) start end range-roomy)
+
+  module _ {f : List ℕ} (p : f ≡ splice d to (128 ∷ [])) where
+    flag-same : length f ≡ length d
+    flag-same = ap length p ∙ length-splice d to (128 ∷ []) (omega (arith, flag-room))
+
+    pub head-room : to + 1 < length f
+    head-room = omega (arith, flag-same, one-room d to (128 ∷ headByte ks ke ∷ []) start end range-roomy)
+
+    module _ {g : List ℕ} {h : ℕ} (c : h ≡ headByte ks ke) (q : g ≡ splice f (to + 1) (h ∷ [])) where
+      headed : Put d to (128 ∷ headByte ks ke ∷ []) g (to + 2)
+      headed =
+          record {
+            is = q ∙ ap (λ z. splice z (to + 1) (h ∷ [])) p ∙ splice-splice d to (128 ∷ []) (h ∷ []) (to + 1) refl (omega (arith, flag-room)) ∙ ap (λ z. splice d to (128 ∷ z ∷ [])) c;
+            past-is = refl;
+          }
+
+      pub start-room : to + 2 + length (writeBound (boundOf ks s)) ≤ length g
+      start-room = two-room d to (128 ∷ headByte ks ke ∷ []) start end range-roomy headed
+
+      module _ {o : List ℕ} {a : ℕ} (u : Put g (to + 2) (writeBound (boundOf ks s)) o a) where
+        pub end-room : a + length (writeBound (boundOf ke e)) ≤ length o
+        end-room = three-room d to (128 ∷ headByte ks ke ∷ []) start end range-roomy headed u
+
+        module _ {o′ : List ℕ} {b : ℕ} (v : Put o a (writeBound (boundOf ke e)) o′ b) where
+          pub range-put : Put d to (128 ∷ writeRange (rangeOf ks s ke e)) o′ b
+          range-put = put-same (all-put d to (128 ∷ headByte ks ke ∷ []) start end range-roomy headed u v) (sym range-is)
+
+          pub range-same : length o′ ≡ length d
+          range-same = all-length d to (128 ∷ headByte ks ke ∷ []) start end range-roomy headed u v
+
+pub ruleset range-exits = (flag-room, head-room, start-room, end-room, range-put, range-same)
+
+-- ---- put_visible: the keys stand in the slices of their sides
+module _ (image job : List ℕ) (a b : Side) (r : Row) {s e : List ℕ} (x : s ≡ of a image job) (y : e ≡ of b image job) where
+  pub start-inside : BoundInside (of a image job) (r .start) → BoundInside s (r .start)
+  start-inside h = rw x h
+
+  pub end-inside : BoundInside (of b image job) (r .end) → BoundInside e (r .end)
+  end-inside h = rw y h
+
+  module _ {k j : Key} (u : k ≡ take (r .start .len) (drop (r .start .at) s)) (v : j ≡ take (r .end .len) (drop (r .end .at) e)) where
+    keys-are : writeRange (rangeOf (r .start .kind) k (r .end .kind) j) ≡ writeRange (sidedRange a b image job r)
+    keys-are = rw (u, v, x, y)
+
+    pub visible-room : (d : List ℕ) (to : ℕ) → to + length (128 ∷ writeRange (sidedRange a b image job r)) ≤ length d → to + length (128 ∷ writeRange (rangeOf (r .start .kind) k (r .end .kind) j)) ≤ length d
+    visible-room d to h = rw keys-are h
+
+    module _ (d : List ℕ) (to : ℕ) {f : List ℕ} {past : ℕ} (p : Put d to (128 ∷ writeRange (rangeOf (r .start .kind) k (r .end .kind) j)) f past) where
+      pub visible-put : Put d to (128 ∷ writeRange (sidedRange a b image job r)) f past
+      visible-put = put-same p (ap (λ z. 128 ∷ z) keys-are)
+
+      pub visible-same : to + length (128 ∷ writeRange (sidedRange a b image job r)) ≤ length d → length f ≡ length d
+      visible-same h = put-length p (visible-room d to h)
+
+pub ruleset visible-exits = (start-inside, end-inside, visible-room, visible-put, visible-same)
+
+-- ---- put_output: the id, the table, and one byte
+module _ (d : List ℕ) (to : ℕ) (job : List ℕ) (a b : ℕ) (room : to + length (wholeBytes (between job a (a + 16)) (between job a b)) ≤ length d) where
+  abbrev id : List ℕ
+  id = between job a (a + 16)
+
+  abbrev table : List ℕ
+  table = between job a b
+
+  whole-roomy : to + length (id ++ (table ++ (0 ∷ []))) ≤ length d
+  unfolding wholeBytes
+  whole-roomy = room
+
+  pub whole-id-room : to + length (between job a (a + 16)) ≤ length d
+  whole-id-room = one-room d to id table (0 ∷ []) whole-roomy
+
+  module _ {e : List ℕ} {u : ℕ} (p : Put d to (between job a (a + 16)) e u) where
+    pub whole-table-room : u + length (between job a b) ≤ length e
+    whole-table-room = two-room d to id table (0 ∷ []) whole-roomy p
+
+    module _ {f : List ℕ} {v : ℕ} (q : Put e u (between job a b) f v) where
+      zero-room : v + 1 ≤ length f
+      zero-room = three-room d to id table (0 ∷ []) whole-roomy p q
+
+      pub whole-flag-room : v < length f
+      whole-flag-room = omega (arith, zero-room)
+
+      same-before : length f ≡ length d
+      same-before = put-length q whole-table-room ∙ put-length p whole-id-room
+
+      pub whole-flag-fits : length d < 2 ^ 64 → Fits w64 (v + 1)
+      whole-flag-fits h = omega (arith, zero-room, same-before)
+
+      module _ {g : List ℕ} (w : g ≡ splice f v (0 ∷ [])) where
+        last : Put f v (0 ∷ []) g (v + 1)
+        last = put-here f v (0 ∷ []) w refl
+
+        pub whole-put : Put d to (wholeBytes (between job a (a + 16)) (between job a b)) g (v + 1)
+        unfolding wholeBytes
+        whole-put = all-put d to id table (0 ∷ []) whole-roomy p q last
+
+        pub whole-same : length g ≡ length d
+        whole-same = all-length d to id table (0 ∷ []) whole-roomy p q last
+
+pub ruleset output-exits = (whole-id-room, whole-table-room, whole-flag-room, whole-flag-fits, whole-put, whole-same)
+
+-- ---- a row by its form
+module _ (image job ids : List ℕ) (r : Row) where
+  whole-bytes : r .form ≡ Whole → between image (r .at) (r .past) ≡ rowBytes image job ids r
+  unfolding rowBytes
+  whole-bytes e = rw e
+
+  output-bytes : r .form ≡ Output → wholeBytes (between job (r .at) (r .at + 16)) (between job (r .at) (r .past)) ≡ rowBytes image job ids r
+  unfolding rowBytes
+  output-bytes e = rw e
+
+  cut-output-bytes : r .form ≡ CutOutput → newIdBytes job (r .at) ids (r .ten) ++ (between job (r .at) (r .past) ++ (128 ∷ writeRange (sidedRange Second Second image job r))) ≡ rowBytes image job ids r
+  unfolding rowBytes cutBytes rowRange
+  cut-output-bytes e = rw e
+
+  cut-bytes : {a b : Side} → r .form ≡ Cut a b → newIdBytes image (r .at) ids (r .ten) ++ (between image (r .at + 16) (r .past) ++ (128 ∷ writeRange (sidedRange a b image job r))) ≡ rowBytes image job ids r
+  unfolding rowBytes cutBytes rowRange
+  cut-bytes e = rw e
+
+  module _ (i : RowInside image job ids r) where
+    pub whole-inside : r .form ≡ Whole → r .past ≤ length image
+    whole-inside e = rw e at (i .past)
+
+    pub whole-order : r .at ≤ r .past
+    whole-order = omega (arith, i .id)
+
+    pub output-id : r .at + 16 ≤ r .past
+    output-id = i .id
+
+    pub output-inside : r .form ≡ Output → r .past ≤ length job
+    output-inside e = rw e at (i .past)
+
+    -- the range of an output
+    module _ (f : r .form ≡ CutOutput) where
+      pub cut-output-inside : r .past ≤ length job
+      cut-output-inside = rw f at (i .past)
+
+      pub cut-output-id : r .at + 16 ≤ length job
+      cut-output-id = omega (arith, i .id, cut-output-inside)
+
+      pub cut-output-ten : r .ten + 10 ≤ length ids
+      cut-output-ten = rw f at (i .ten)
+
+      pub cut-output-start : BoundInside job (r .start)
+      cut-output-start = rw f at (i .start)
+
+      pub cut-output-end : BoundInside job (r .end)
+      cut-output-end = rw f at (i .end)
+
+      module _ (d : List ℕ) (to : ℕ) (room : to + length (rowBytes image job ids r) ≤ length d) where
+        abbrev x : List ℕ
+        x = newIdBytes job (r .at) ids (r .ten)
+
+        abbrev y : List ℕ
+        y = between job (r .at) (r .past)
+
+        abbrev z : List ℕ
+        z = 128 ∷ writeRange (sidedRange Second Second image job r)
+
+        roomy : to + length (x ++ (y ++ z)) ≤ length d
+        roomy = rw (cut-output-bytes f) room
+
+        pub cut-output-id-room : to + length (newIdBytes job (r .at) ids (r .ten)) ≤ length d
+        cut-output-id-room = one-room d to x y z roomy
+
+        module _ {e : List ℕ} {u : ℕ} (p : Put d to (newIdBytes job (r .at) ids (r .ten)) e u) where
+          pub cut-output-table-room : u + length (between job (r .at) (r .past)) ≤ length e
+          cut-output-table-room = two-room d to x y z roomy p
+
+          module _ {o : List ℕ} {v : ℕ} (q : Put e u (between job (r .at) (r .past)) o v) where
+            pub cut-output-range-room : v + length (128 ∷ writeRange (sidedRange Second Second image job r)) ≤ length o
+            cut-output-range-room = three-room d to x y z roomy p q
+
+            module _ {g : List ℕ} {w : ℕ} (t : Put o v (128 ∷ writeRange (sidedRange Second Second image job r)) g w) where
+              pub cut-output-put : Put d to (rowBytes image job ids r) g w
+              cut-output-put = put-same (all-put d to x y z roomy p q t) (cut-output-bytes f)
+
+              pub cut-output-same : length g ≡ length d
+              cut-output-same = all-length d to x y z roomy p q t
+
+    -- the range of a view
+    module _ {a b : Side} (f : r .form ≡ Cut a b) where
+      pub cut-inside : r .past ≤ length image
+      cut-inside = rw f at (i .past)
+
+      pub cut-id : r .at + 16 ≤ length image
+      cut-id = omega (arith, i .id, cut-inside)
+
+      pub cut-ten : r .ten + 10 ≤ length ids
+      cut-ten = rw f at (i .ten)
+
+      pub cut-start : BoundInside (of a image job) (r .start)
+      cut-start = rw f at (i .start)
+
+      pub cut-end : BoundInside (of b image job) (r .end)
+      cut-end = rw f at (i .end)
+
+      module _ (d : List ℕ) (to : ℕ) (room : to + length (rowBytes image job ids r) ≤ length d) where
+        abbrev x′ : List ℕ
+        x′ = newIdBytes image (r .at) ids (r .ten)
+
+        abbrev y′ : List ℕ
+        y′ = between image (r .at + 16) (r .past)
+
+        abbrev z′ : List ℕ
+        z′ = 128 ∷ writeRange (sidedRange a b image job r)
+
+        cut-roomy : to + length (x′ ++ (y′ ++ z′)) ≤ length d
+        cut-roomy = rw (cut-bytes f) room
+
+        pub cut-id-room : to + length (newIdBytes image (r .at) ids (r .ten)) ≤ length d
+        cut-id-room = one-room d to x′ y′ z′ cut-roomy
+
+        module _ {e : List ℕ} {u : ℕ} (p : Put d to (newIdBytes image (r .at) ids (r .ten)) e u) where
+          pub cut-table-room : u + length (between image (r .at + 16) (r .past)) ≤ length e
+          cut-table-room = two-room d to x′ y′ z′ cut-roomy p
+
+          module _ {o : List ℕ} {v : ℕ} (q : Put e u (between image (r .at + 16) (r .past)) o v) where
+            pub cut-range-room : v + length (128 ∷ writeRange (sidedRange a b image job r)) ≤ length o
+            cut-range-room = three-room d to x′ y′ z′ cut-roomy p q
+
+            module _ {g : List ℕ} {w : ℕ} (t : Put o v (128 ∷ writeRange (sidedRange a b image job r)) g w) where
+              pub cut-put : Put d to (rowBytes image job ids r) g w
+              cut-put = put-same (all-put d to x′ y′ z′ cut-roomy p q t) (cut-bytes f)
+
+              pub cut-same : length g ≡ length d
+              cut-same = all-length d to x′ y′ z′ cut-roomy p q t
+
+  -- ---- put_view
+  module _ (d : List ℕ) (to : ℕ) where
+    pub view-whole-room : r .form ≡ Whole → to + length (rowBytes image job ids r) ≤ length d → to + length (between image (r .at) (r .past)) ≤ length d
+    view-whole-room e h = rw (whole-bytes e) h
+
+    pub view-output-room : r .form ≡ Output → to + length (rowBytes image job ids r) ≤ length d → to + length (wholeBytes (between job (r .at) (r .at + 16)) (between job (r .at) (r .past))) ≤ length d
+    view-output-room e h = rw (output-bytes e) h
+
+    pub view-whole : {o : List ℕ} {past : ℕ} → r .form ≡ Whole → Put d to (between image (r .at) (r .past)) o past → Put d to (rowBytes image job ids r) o past
+    view-whole e p = put-same p (whole-bytes e)
+
+    pub view-output : {o : List ℕ} {past : ℕ} → r .form ≡ Output → Put d to (wholeBytes (between job (r .at) (r .at + 16)) (between job (r .at) (r .past))) o past → Put d to (rowBytes image job ids r) o past
+    view-output e p = put-same p (output-bytes e)
+
+    pub view-whole-same : {o : List ℕ} {past : ℕ} → r .form ≡ Whole → to + length (rowBytes image job ids r) ≤ length d → Put d to (between image (r .at) (r .past)) o past → length o ≡ length d
+    view-whole-same e h p = put-length (view-whole e p) h
+
+    pub view-output-same : {o : List ℕ} {past : ℕ} → r .form ≡ Output → to + length (rowBytes image job ids r) ≤ length d → Put d to (wholeBytes (between job (r .at) (r .at + 16)) (between job (r .at) (r .past))) o past → length o ≡ length d
+    view-output-same e h p = put-length (view-output e p) h
+
+    pub view-same : {o : List ℕ} {past : ℕ} → Put d to (rowBytes image job ids r) o past → to + length (rowBytes image job ids r) ≤ length d → length o ≡ length d
+    view-same p h = put-length p h
+
+pub ruleset cut-output-exits = (whole-order, cut-output-inside, cut-output-id, cut-output-ten, cut-output-start, cut-output-end, cut-output-id-room, cut-output-table-room, cut-output-range-room, cut-output-put, cut-output-same)
+
+pub ruleset cut-exits = (output-id, cut-inside, cut-id, cut-ten, cut-start, cut-end, cut-id-room, cut-table-room, cut-range-room, cut-put, cut-same)
+
+pub ruleset view-exits = (whole-inside, whole-order, output-id, output-inside, view-whole-room, view-output-room, view-whole, view-output, view-whole-same, view-output-same, view-same)
+
+-- ---- how many bytes a row takes
+unbounded-length : (key : Key) → length (writeBound (boundOf Unbounded key)) ≡ 0
+unfolding writeBound
+unbounded-length key = refl
+
+included-length : (key : Key) → length (writeBound (boundOf Included key)) ≡ 2 + length key
+unfolding writeBound
+included-length key = key-length key
+
+excluded-length : (key : Key) → length (writeBound (boundOf Excluded key)) ≡ 2 + length key
+unfolding writeBound
+excluded-length key = key-length key
+
+kind-length : (k : Kind) (key : Key) (n : ℕ) → length key ≡ n → length (writeBound (boundOf k key)) ≡ boundLength k n
+kind-length Unbounded key n e = unbounded-length key
+kind-length Included key n e = included-length key ∙ ap (λ m. 2 + m) e
+kind-length Excluded key n e = excluded-length key ∙ ap (λ m. 2 + m) e
+
+bound-length : (s : List ℕ) (b : BoundSpan) → BoundInside s b → length (writeBound (boundIn s b)) ≡ boundLength (b .kind) (b .len)
+bound-length s b h =
+    kind-length (b .kind) (take (b .len) (drop (b .at) s)) (b .len) (length-take-le (b .len) (drop (b .at) s) (rw length-drop (omega arith)))
+
+range-length : (s t : List ℕ) (a b : BoundSpan) → BoundInside s a → BoundInside t b → length (writeRange (record { start = boundIn s a; end = boundIn t b })) ≡ rangeLength a b
+unfolding writeRange
+range-length s t a b h k =
+    let l = length-append (writeBound (boundIn s a)) (writeBound (boundIn t b)) in
+    omega (arith, l, bound-length s a h, bound-length t b k)
+
+id-length : (s : List ℕ) (id : ℕ) (ids : List ℕ) (ten : ℕ) → id + 16 ≤ length s → ten + 10 ≤ length ids → length (newIdBytes s id ids ten) ≡ 16
+unfolding newIdBytes
+id-length s id ids ten h k =
+    let l = length-append (between s id (id + 6)) (between ids ten (ten + 10)) in
+    omega (arith, l, between-length s id (id + 6) (omega arith), between-length ids ten (ten + 10) k)
+
+cut-length : (id t r : List ℕ) → length (cutBytes id t r) ≡ length id + (length t + (1 + length r))
+unfolding cutBytes
+cut-length id t r = let k = length-append t (128 ∷ r) in length-append id (t ++ (128 ∷ r)) ∙ omega (arith, k)
+
+whole-length : (id t : List ℕ) → length (wholeBytes id t) ≡ length id + (length t + 1)
+unfolding wholeBytes
+whole-length id t = let k = length-append t (0 ∷ []) in length-append id (t ++ (0 ∷ [])) ∙ omega (arith, k)
+
+module _ (image job ids : List ℕ) (r : Row) (i : RowInside image job ids r) where
+  row-range-length : length (writeRange (rowRange image job r)) ≡ rangeLength (r .start) (r .end)
+  unfolding rowRange
+  row-range-length = range-length (startIn (r .form) image job) (endIn (r .form) image job) (r .start) (r .end) (i .start) (i .end)
+
+  length-as : (f : Form) → r .form ≡ f → length (bytesAs f image job ids r) ≡ lengthAs f r
+  length-as Whole e = between-length image (r .at) (r .past) (whole-inside image job ids r i e)
+  length-as Output e =
+      let p = output-inside image job ids r i e in
+      whole-length (between job (r .at) (r .at + 16)) (between job (r .at) (r .past))
+      ∙ omega (arith, i .id, p, between-length job (r .at) (r .at + 16) (omega (arith, i .id, p)), between-length job (r .at) (r .past) p)
+  length-as CutOutput e =
+      let p = cut-output-inside image job ids r i e in
+      cut-length (newIdBytes job (r .at) ids (r .ten)) (between job (r .at) (r .past)) (writeRange (rowRange image job r))
+      ∙ omega (arith, row-range-length, between-length job (r .at) (r .past) p, id-length job (r .at) ids (r .ten) (omega (arith, i .id, p)) (cut-output-ten image job ids r i e))
+  length-as (Cut a b) e =
+      let p = cut-inside image job ids r i e in
+      cut-length (newIdBytes image (r .at) ids (r .ten)) (between image (r .at + 16) (r .past)) (writeRange (rowRange image job r))
+      ∙ omega (arith, i .id, row-range-length, between-length image (r .at + 16) (r .past) p, id-length image (r .at) ids (r .ten) (omega (arith, i .id, p)) (cut-ten image job ids r i e))
+
+  pub row-length : length (rowBytes image job ids r) ≡ rowLength r
+  unfolding rowBytes rowLength
+  row-length = length-as (r .form) refl

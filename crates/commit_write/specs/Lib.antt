@@ -1,0 +1,4 @@
+pub mod Put
+pub mod Rows
+pub mod Buckets
+pub mod BucketLaws

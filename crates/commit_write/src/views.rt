@@ -1,0 +1,158 @@
+// The bytes of a row. Each function answers the place past what it put.
+use commit_rows::Form;
+use commit_rows::Row;
+use comparable_range::Kind;
+use comparable_range::Side;
+use format::key_of;
+use format::span::slice_of;
+ghost use mathlib.Core.Path.{_≡_};
+ghost use mathlib.Core.List.{[], _∷_, _++_};
+ghost use Prim.Native.Nat.{_≤_, _+_};
+ghost use lib.ListN.{length};
+ghost use Rattle.comparable_range.specs.Range.{of, boundOf, rangeOf};
+ghost use Rattle.format.specs.Key.{writeKey};
+ghost use Rattle.format.specs.Range.{BoundInside, writeBound, writeRange};
+ghost use Rattle.commit_rows.specs.Bytes.{between, newIdBytes, wholeBytes, RowInside, rowBytes};
+ghost use Rattle.commit_rows.specs.declared.rows.Form.the-variants.{CutOutput, Cut};
+ghost use Rattle.commit_write.specs.Put.{Put, sidedRange};
+
+// The bytes of src from a place up to another.
+pub fn put_part(src: &[u8], a: usize, b: usize, out: &mut [u8], to: usize) -> usize
+    requires { ⌜ a ≤ b ⌝ ∗ ⌜ b ≤ length (now src) ⌝ ∗ ⌜ to + length (between (now src) a b) ≤ length (now out) ⌝ }
+    ensures { λ r. ⌜ Put (now (out .entry)) to (between (now (src .entry)) a b) (now (out .exit)) r ⌝ }
+{
+    format::put(out, to, &src[a..b]);
+    to + (b - a)
+}
+
+// The time of the id that stands in src, and ten bytes of the supply.
+fn put_new_id(src: &[u8], id: usize, ids: &[u8], ten: usize, out: &mut [u8], to: usize) -> usize
+    requires { ⌜ id + 16 ≤ length (now src) ⌝ ∗ ⌜ ten + 10 ≤ length (now ids) ⌝ ∗ ⌜ to + length (newIdBytes (now src) id (now ids) ten) ≤ length (now out) ⌝ }
+    ensures { λ r. ⌜ Put (now (out .entry)) to (newIdBytes (now (src .entry)) id (now (ids .entry)) ten) (now (out .exit)) r ⌝ }
+{
+    let past = put_part(src, id, id + 6, out, to);
+    put_part(ids, ten, ten + 10, out, past)
+}
+
+// A key with its length.
+fn put_key(key: &[u8], out: &mut [u8], to: usize) -> usize
+    requires { ⌜ to + length (writeKey (now key)) ≤ length (now out) ⌝ }
+    ensures { λ r. ⌜ Put (now (out .entry)) to (writeKey (now (key .entry))) (now (out .exit)) r ⌝ }
+{
+    format::put_number(out, to, key.len() as u64, 2);
+    format::put(out, to + 2, key);
+    to + 2 + key.len()
+}
+
+fn put_bound(k: Kind, key: &[u8], out: &mut [u8], to: usize) -> usize
+    requires { ⌜ to + length (writeBound (boundOf k (now key))) ≤ length (now out) ⌝ }
+    ensures { λ r. ⌜ Put (now (out .entry)) to (writeBound (boundOf k (now (key .entry)))) (now (out .exit)) r ⌝ }
+{
+    match k {
+        Kind::Unbounded => to,
+        Kind::Included => put_key(key, out, to),
+        Kind::Excluded => put_key(key, out, to),
+    }
+}
+
+// The flag of a visible range, and the range.
+fn put_range(ks: Kind, s: &[u8], ke: Kind, e: &[u8], out: &mut [u8], to: usize) -> usize
+    requires { ⌜ to + length (128 ∷ writeRange (rangeOf ks (now s) ke (now e))) ≤ length (now out) ⌝ }
+    ensures { λ r. ⌜ Put (now (out .entry)) to (128 ∷ writeRange (rangeOf ks (now (s .entry)) ke (now (e .entry)))) (now (out .exit)) r ⌝ }
+{
+    let head = format::head_byte(ks, ke);
+    format::put_byte(out, to, 128);
+    format::put_byte(out, to + 1, head);
+    let past = put_bound(ks, s, out, to + 2);
+    put_bound(ke, e, out, past)
+}
+
+// The flag and the range of a row, its bounds out of the image (first) or out of the job (second).
+fn put_visible<'a>(
+    image: &'a [u8],
+    job: &'a [u8],
+    start: Side,
+    end: Side,
+    r: Row,
+    out: &mut [u8],
+    to: usize,
+) -> usize
+    requires { ⌜ BoundInside (of start (now image) (now job)) (r .start) ⌝ ∗ ⌜ BoundInside (of end (now image) (now job)) (r .end) ⌝ }
+    requires { ⌜ to + length (128 ∷ writeRange (sidedRange start end (now image) (now job) r)) ≤ length (now out) ⌝ }
+    ensures { λ z. ⌜ Put (now (out .entry)) to (128 ∷ writeRange (sidedRange start end (now (image .entry)) (now (job .entry)) r)) (now (out .exit)) z ⌝ }
+{
+    let x = r.start;
+    let y = r.end;
+    let ks = x.kind;
+    let ke = y.kind;
+    let s = slice_of(start, image, job);
+    let e = slice_of(end, image, job);
+    put_range(ks, key_of(s, x), ke, key_of(e, y), out, to)
+}
+
+// An output of the job under its own id.
+fn put_output(job: &[u8], a: usize, b: usize, out: &mut [u8], to: usize) -> usize
+    requires { ⌜ a + 16 ≤ b ⌝ ∗ ⌜ b ≤ length (now job) ⌝ ∗ ⌜ to + length (wholeBytes (between (now job) a (a + 16)) (between (now job) a b)) ≤ length (now out) ⌝ }
+    ensures { λ r. ⌜ Put (now (out .entry)) to (wholeBytes (between (now (job .entry)) a (a + 16)) (between (now (job .entry)) a b)) (now (out .exit)) r ⌝ }
+{
+    let table = put_part(job, a, a + 16, out, to);
+    let flag = put_part(job, a, b, out, table);
+    format::put_byte(out, flag, 0);
+    flag + 1
+}
+
+// The durable range of an output under a new id.
+fn put_cut_output<'a>(
+    image: &'a [u8],
+    job: &'a [u8],
+    ids: &[u8],
+    r: Row,
+    out: &mut [u8],
+    to: usize,
+) -> usize
+    requires { ⌜ RowInside (now image) (now job) (now ids) r ⌝ ∗ ⌜ r .form ≡ CutOutput ⌝ ∗ ⌜ to + length (rowBytes (now image) (now job) (now ids) r) ≤ length (now out) ⌝ }
+    ensures { λ z. ⌜ Put (now (out .entry)) to (rowBytes (now (image .entry)) (now (job .entry)) (now (ids .entry)) r) (now (out .exit)) z ⌝ }
+{
+    let table = put_new_id(job, r.at, ids, r.ten, out, to);
+    let flag = put_part(job, r.at, r.past, out, table);
+    put_visible(image, job, Side::Second, Side::Second, r, out, flag)
+}
+
+// A range of a view under a new id.
+fn put_cut<'a>(
+    image: &'a [u8],
+    job: &'a [u8],
+    ids: &[u8],
+    start: Side,
+    end: Side,
+    r: Row,
+    out: &mut [u8],
+    to: usize,
+) -> usize
+    requires { ⌜ RowInside (now image) (now job) (now ids) r ⌝ ∗ ⌜ r .form ≡ Cut start end ⌝ ∗ ⌜ to + length (rowBytes (now image) (now job) (now ids) r) ≤ length (now out) ⌝ }
+    ensures { λ z. ⌜ Put (now (out .entry)) to (rowBytes (now (image .entry)) (now (job .entry)) (now (ids .entry)) r) (now (out .exit)) z ⌝ }
+{
+    let table = put_new_id(image, r.at, ids, r.ten, out, to);
+    let flag = put_part(image, r.at + 16, r.past, out, table);
+    put_visible(image, job, start, end, r, out, flag)
+}
+
+pub fn put_view<'a>(
+    image: &'a [u8],
+    job: &'a [u8],
+    ids: &[u8],
+    r: Row,
+    out: &mut [u8],
+    to: usize,
+) -> usize
+    requires { ⌜ RowInside (now image) (now job) (now ids) r ⌝ ∗ ⌜ to + length (rowBytes (now image) (now job) (now ids) r) ≤ length (now out) ⌝ }
+    ensures { λ z. ⌜ Put (now (out .entry)) to (rowBytes (now (image .entry)) (now (job .entry)) (now (ids .entry)) r) (now (out .exit)) z ⌝ }
+{
+    let form = r.form;
+    match form {
+        Form::Whole => put_part(image, r.at, r.past, out, to),
+        Form::Output => put_output(job, r.at, r.past, out, to),
+        Form::CutOutput => put_cut_output(image, job, ids, r, out, to),
+        Form::Cut(start, end) => put_cut(image, job, ids, start, end, r, out, to),
+    }
+}
