@@ -1,6 +1,6 @@
 -- `commit_durable::gaps::gaps_of` meets its contract.
 -- Assumes nothing.
-use Rattle.commit_durable.proofs.GapExits.{gaps-exits, GapsKept, gaps-none, gaps-onward}
+use Rattle.commit_durable.proofs.GapExits.{gaps-exits, GapsKept}
 use Prim.Native.Nat.{_-_}
 use borrow.Author.Needs.{needs}
 use Rattle.commit_durable.proofs.gaps.gaps_of.Statement.{statement}
@@ -37,15 +37,7 @@ loop-less : tie.Need-loop-less Inv-loop μ-loop
 loop-less c = search (needs, gaps-exits)
 
 loop-again : tie.Need-loop-again Inv-loop μ-loop
-loop-again c =
-    gaps-onward
-    (c .before .before .before .before .before .before .before .before .before .loop .inv)
-    (search needs)
-    (c .before .before .before .before .before .before .before .part-at .ensures)
-    (search needs)
-    (c .before .before .before .before .before .gap-to .ensures)
-    (search needs)
-    (search needs)
+loop-again c = search (needs, gaps-exits, c .before .before .before .before .before .before .before .part-at .ensures)
 
 add-k-2 : tie.Need-add-k-2 Inv-loop μ-loop
 add-k-2 c = search (needs, gaps-exits)
@@ -54,7 +46,7 @@ loop-less-2 : tie.Need-loop-less-2 Inv-loop μ-loop
 loop-less-2 c = search (needs, gaps-exits)
 
 loop-again-2 : tie.Need-loop-again-2 Inv-loop μ-loop
-loop-again-2 c = gaps-none (c .before .before .before .loop .inv) (search needs) (c .before .part-at .ensures) (search needs)
+loop-again-2 c = search (needs, gaps-exits, c .before .part-at .ensures)
 
 last-gap-requires : tie.Need-last-gap-requires Inv-loop μ-loop
 last-gap-requires c κs = search (needs, gaps-exits)
