@@ -5,8 +5,8 @@ use native.Mathlib.Omega.{arith}
 use native.Mathlib.Numerals.{add-one}
 use mathlib.Core.Path.{_≡_}
 use mathlib.Core.Bool.{false}
-use mathlib.Core.List.{List, [], _∷_}
-use lib.ListN.{length, drop, getD}
+use mathlib.Core.List.{List, []}
+use lib.ListN.{length, getD}
 use lib.Seq.{drop-cons}
 use Rattle.base.specs.Rows.{rowAt, hold-at}
 use Rattle.format.specs.declared.span.RangeSpan.{RangeSpan}
