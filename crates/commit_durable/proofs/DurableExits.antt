@@ -1,9 +1,9 @@
 -- The exits of the functions that find a part's durable interval.
 -- Assumes nothing.
 use Prim.Native.Nat.{ℕ}
-use mathlib.Core.Path.{_≡_, refl, sym, ap, _∙_}
+use mathlib.Core.Path.{_≡_, refl, ap}
 use mathlib.Core.Bool.{Bool, true, false}
-use mathlib.Core.Option.{Option, none, some}
+use mathlib.Core.Option.{Option, some}
 use mathlib.Core.List.{List}
 use lib.ListN.{take, drop}
 use native.Mathlib.Omega.{arith}
@@ -12,12 +12,12 @@ use Rattle.key.specs.declared.Order.{Order}
 use Rattle.comparable_range.specs.Range.{Bound, Range, boundOf}
 use Rattle.comparable_range.specs.declared.Kind.{Kind}
 use Rattle.comparable_range.specs.declared.Kind.the-variants.{Unbounded, Included, Excluded}
-use Rattle.format.specs.Range.{boundIn, rangeIn, BoundInside}
+use Rattle.format.specs.Range.{boundIn, BoundInside}
 use Rattle.format.specs.declared.range.BoundSpan.{BoundSpan}
 use Rattle.format.specs.declared.span.RangeSpan.{RangeSpan}
 use Rattle.incremental_progress.specs.Intervals.{Interval, startBound, endBound}
 use Rattle.incremental_progress.specs.Parts.{keyOf, isKey, upToKey}
-use Rattle.commit_durable.specs.Answers.{lastIn, LastInside, startKind, endKind, startSpan, endSpan, durableFrom, DurableFound}
+use Rattle.commit_durable.specs.Answers.{lastIn, LastInside, startKind, endKind, startSpan, endSpan, DurableFound}
 use Rattle.commit_durable.specs.declared.outputs.Outputs.{Outputs}
 
 -- ---- start_of and end_of

@@ -1,17 +1,14 @@
 -- The exits of the job as a whole.
 -- Assumes nothing.
-use Prim.Native.Nat.{ℕ, _+_, _*_, _≤_, _<_}
+use Prim.Native.Nat.{ℕ, _≤_, _<_}
 use mathlib.Core.Path.{_≡_, refl, sym, ap, _∙_}
-use mathlib.Core.Bool.{Bool}
 use mathlib.Core.List.{List}
 use lib.ListN.{length, drop, drop-of-length-le}
 use lib.Seq.{drop-cons}
 use Rattle.base.specs.Pick.{pick}
-use Rattle.base.specs.Outcome.{answer}
-use Rattle.format.specs.Got.{Got, got, stop, andThen}
+use Rattle.format.specs.Got.{got, stop, andThen}
 use Rattle.format.specs.Whole.{ended}
 use Rattle.records.specs.Form.{readMany}
-use Rattle.records.specs.Values.{Job}
 use Rattle.records.specs.Layouts.{part, job}
 use Rattle.records.specs.Spans.{idsIn, jobHead, JobFound}
 use Rattle.records.specs.declared.parts.JobRead.{JobRead}
@@ -21,7 +18,7 @@ use Rattle.records.proofs.PartExits as records-parts
 use Rattle.manifest.specs.Faults.{faultOf}
 use Rattle.manifest.proofs.Steps.{job-parts}
 use Rattle.commit_durable.specs.Faults.{partsFault}
-use Rattle.commit_durable.specs.Answers.{PartsPassed, JobTold, JobPassed}
+use Rattle.commit_durable.specs.Answers.{PartsPassed, JobPassed}
 use Rattle.commit_durable.specs.declared.parts.PartsSeen.{PartsSeen}
 use Rattle.commit_durable.specs.declared.parts.PartsJudged.{PartsJudged}
 use Rattle.commit_durable.specs.declared.parts.PartsJudged.the-variants.{At as PartsAt, Stop as PartsStop}

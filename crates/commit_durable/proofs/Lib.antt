@@ -1,7 +1,9 @@
 pub mod Counts
 pub mod DurableExits
+pub mod GapExits
 pub mod JobExits
 pub mod OutputExits
 pub mod PartExits
+pub mod SourceExits
 pub mod Steps
 pub mod TableExits

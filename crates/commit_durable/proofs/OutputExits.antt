@@ -2,7 +2,6 @@
 -- them makes for the next; and the exits of the functions on one output.
 -- Assumes nothing.
 use Prim.Native.Nat.{ℕ, _+_, _-_, _≤_, _<_}
-use native.Mathlib.Omega.{arith}
 use native.Mathlib.Nat.{add-zero}
 use mathlib.Core.Path.{_≡_, refl, sym, ap, _∙_}
 use mathlib.Core.Bool.{Bool, true, false, _&&_, and-true, and-false}
@@ -12,7 +11,6 @@ use Rattle.key.specs.Order.{Key, atMost}
 use Rattle.key.specs.declared.Order.{Order}
 use Rattle.comparable_range.specs.Range.{boundOf, cmpBound}
 use Rattle.comparable_range.specs.Cut.{Cut, before, after, above, cutAtMost, startCut, endCut}
-use Rattle.format.specs.Got.{Got, got, stop}
 use Rattle.format.specs.Range.{boundIn, BoundInside}
 use Rattle.format.specs.declared.range.BoundSpan.{BoundSpan}
 use Rattle.format.specs.declared.span.RangeSpan.{RangeSpan}
@@ -25,13 +23,13 @@ use Rattle.records.specs.declared.tables.TableRead.{TableRead}
 use Rattle.records.specs.declared.tables.TableRead.the-variants.{At as TableAt, Stop as TableStop}
 use Rattle.records.proofs.Many.{Reading, begin, stopped, onward, all-read}
 use Rattle.manifest.specs.Checks.{keysInOrder, sizePasses}
-use Rattle.manifest.specs.Faults.{faultOf, least, tableChecks, tablesChecks}
+use Rattle.manifest.specs.Faults.{faultOf, least, tableChecks}
 use Rattle.manifest.specs.Spans.{firstSpan, lastKind, lastSpan, sizeFits}
 use Rattle.manifest.proofs.Steps.{tables-none, tables-more}
 use Rattle.incremental_progress.specs.Checks.{endsBy, lastCut, outputsFrom}
 use Rattle.incremental_progress.specs.Parts.{lastWritten}
 use Rattle.commit_durable.specs.Faults.{outputBetween}
-use Rattle.commit_durable.specs.Answers.{outputMore, lastIn, LastInside, OutputsTold, OutputsPassed}
+use Rattle.commit_durable.specs.Answers.{outputMore, OutputsTold, OutputsPassed}
 use Rattle.commit_durable.specs.declared.outputs.Outputs.{Outputs}
 use Rattle.commit_durable.specs.declared.outputs.OutputsRead.the-variants.{At, Stop}
 use Rattle.commit_durable.proofs.Steps.{starts-by-cuts, ends-by-cuts, cutPast, past-more, outputCut, outputs-more}

@@ -19,7 +19,7 @@ use Rattle.comparable_range.specs.Cut.{Cut, below, cutAtMost, startCut, endCut}
 use Rattle.comparable_range.specs.declared.Kind.{Kind}
 use Rattle.comparable_range.specs.declared.Kind.the-variants.{Unbounded, Included, Excluded}
 use Rattle.comparable_range.proofs.Cut.{below-≼}
-use Rattle.format.specs.Got.{Got, got, stop, andThen}
+use Rattle.format.specs.Got.{got, stop, andThen}
 use Rattle.format.specs.Range.{boundIn, rangeIn, BoundInside}
 use Rattle.format.specs.declared.range.BoundSpan.{BoundSpan}
 use Rattle.format.specs.declared.span.RangeSpan.{RangeSpan}
@@ -32,7 +32,7 @@ use Rattle.records.specs.declared.parts.PartRead.the-variants.{At as HeadAt, St
 use Rattle.records.proofs.Many.{Reading, begin, stopped, onward, all-read}
 use Rattle.records.proofs.PartExits.{part-is}
 use Rattle.manifest.specs.Checks.{all, isExcluded}
-use Rattle.manifest.specs.Faults.{faultOf, least, tablesChecks, partsChecks, planned}
+use Rattle.manifest.specs.Faults.{faultOf, least, planned}
 use Rattle.manifest.proofs.Steps.{all-more, parts-none, parts-more}
 use Rattle.incremental_progress.specs.Checks.{isIncluded, plannedFrom, outputsInside}
 use Rattle.incremental_progress.specs.Parts.{lastWritten, durable, openKey}

@@ -30,7 +30,7 @@ use Rattle.incremental_progress.specs.Parts.{keyOf, lastWritten, upToKey}
 use Rattle.incremental_progress.specs.Checks.{plannedFrom, outputsFrom, outputsInside}
 use Rattle.commit_rows.specs.declared.parts.PartSpan.{PartSpan}
 use Rattle.commit_durable.specs.Faults.{plannedAfter, outputBetween, partsFault}
-use Rattle.commit_durable.specs.Tables.{jobOf, intervalIn, PartHeld, PartIs, PartsHold}
+use Rattle.commit_durable.specs.Tables.{jobOf, intervalIn, PartHeld, PartIs, PartsHold, GapsHold}
 use Rattle.commit_durable.specs.declared.outputs.Outputs.{Outputs}
 use Rattle.commit_durable.specs.declared.outputs.OutputsRead.{OutputsRead}
 use Rattle.commit_durable.specs.declared.outputs.OutputsRead.the-variants.{At as OutputsAt, Stop as OutputsStop}
@@ -41,6 +41,7 @@ use Rattle.commit_durable.specs.declared.parts.PartJudged.the-variants.{
 use Rattle.commit_durable.specs.declared.parts.PartsSeen.{PartsSeen}
 use Rattle.commit_durable.specs.declared.parts.PartsJudged.{PartsJudged}
 use Rattle.commit_durable.specs.declared.parts.PartsJudged.the-variants.{At as PartsAt, Stop as PartsStop}
+use Rattle.commit_durable.specs.declared.gaps.GapStart.{GapStart}
 use Rattle.commit_durable.specs.declared.jobs.JobHead.{JobHead}
 use Rattle.commit_durable.specs.declared.jobs.JobJudged.{JobJudged}
 use Rattle.commit_durable.specs.declared.jobs.JobJudged.the-variants.{At as JobAt, Stop as JobStop}
@@ -217,4 +218,21 @@ JobAnswer s t (JobStop k) = ended (job .read s) ≡ outcome.stop k
 -- the table was d
 pub record JobPassed (s d t : List ℕ) (r : JobJudged) : Type 0 where
   pub is : JobAnswer s t r
+  pub same : length t ≡ length d
+
+-- ---- gaps
+-- where the next gap starts
+abbrev pub startIn : List ℕ → GapStart → Option Bound
+startIn s g = ifSo (g .there) (boundIn s (g .bound))
+
+abbrev pub StartInside : List ℕ → GapStart → Type 0
+StartInside s g = BoundInside s (g .bound)
+
+pub record StartFound (s : List ℕ) (b : Option Bound) (g : GapStart) : Type 0 where
+  pub is : startIn s g ≡ b
+  pub inside : StartInside s g
+
+-- r gaps stand in a table t that was d
+pub record GapsMade (s d t : List ℕ) (r : ℕ) : Type 0 where
+  pub hold : GapsHold s r t
   pub same : length t ≡ length d

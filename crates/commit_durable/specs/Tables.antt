@@ -67,6 +67,12 @@ pub record PartsHold (s : List ℕ) (n : ℕ) (t : List ℕ) : Type 0 where
   pub most : n ≤ 64
   pub rows : RowsHold 10 (PartIs s) (jobOf s .parts) t
 
+-- r is part k
+pub record PartFound (s : List ℕ) (k : ℕ) (r : PartSpan) : Type 0 where
+  pub part : Part
+  pub is : drop k (jobOf s .parts) ≡ part ∷ drop (k + 1) (jobOf s .parts)
+  pub held : PartHeld s part r
+
 -- ---- gaps
 -- r stands for the gap
 pub record GapHeld (s : List ℕ) (g : Range) (r : RangeSpan) : Type 0 where

@@ -111,8 +111,9 @@ pub fn outputs_read(job: &[u8], from: usize, n: usize, planned: RangeSpan) -> Ou
                 return OutputsRead::Stop(k);
             }
             TableRead::At(t) => {
+                let last = own_end(t);
                 o = output_more(job, o, before, planned.end, t);
-                before = own_end(t);
+                before = last;
                 left -= 1;
             }
         }

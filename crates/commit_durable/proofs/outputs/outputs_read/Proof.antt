@@ -26,11 +26,11 @@ returns c = search (needs, outputs-exits)
 enum-known-t : tie.Need-enum-known-t Inv-loop μ-loop
 enum-known-t c = search (needs, outputs-exits)
 
-output-more-requires : tie.Need-output-more-requires Inv-loop μ-loop
-output-more-requires c κs = search (needs, outputs-exits)
-
 own-end-requires : tie.Need-own-end-requires Inv-loop μ-loop
 own-end-requires c κs = search (needs, outputs-exits)
+
+output-more-requires : tie.Need-output-more-requires Inv-loop μ-loop
+output-more-requires c κs = search (needs, outputs-exits)
 
 sub-left : tie.Need-sub-left Inv-loop μ-loop
 sub-left c = search (needs, outputs-exits)
@@ -55,8 +55,8 @@ outputs-read-spec =
     enum-known-k
     returns
     enum-known-t
-    output-more-requires
     own-end-requires
+    output-more-requires
     sub-left
     loop-less
     loop-again

@@ -1,7 +1,6 @@
 -- `commit_durable::parts::planned_fault` meets its contract.
 -- Assumes nothing.
 use Rattle.commit_durable.proofs.PartExits.{planned-exits}
-use Rattle.commit_durable.proofs.PartExits.{planned-exits}
 use borrow.Author.Needs.{needs}
 use Rattle.commit_durable.proofs.parts.planned_fault.Statement.{statement}
 use Rattle.commit_durable.proofs.parts.planned_fault.Tie as tie
