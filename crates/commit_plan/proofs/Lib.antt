@@ -1,0 +1,3 @@
+pub mod HeldExits
+pub mod PieceExits
+pub mod ViewExits
