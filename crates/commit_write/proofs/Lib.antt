@@ -7,3 +7,4 @@ pub mod Summing
 pub mod Slots
 pub mod Placing
 pub mod Placed
+pub mod RunExits

@@ -2,3 +2,4 @@ pub mod Put
 pub mod Rows
 pub mod Buckets
 pub mod BucketLaws
+pub mod Runs
