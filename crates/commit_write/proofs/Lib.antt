@@ -8,3 +8,4 @@ pub mod Slots
 pub mod Placing
 pub mod Placed
 pub mod RunExits
+pub mod ImageExits

@@ -95,11 +95,11 @@ module _ {A : Type 0} where
   pieces-gap g (p ∷ ps) =
       elim (decided (eqb (p .gap) g)) [
         | inl h ↦
-          let e : p .gap ≡ g = eqb-true (p .gap) g h in
-          rw (h, eq-eqb (2 * p .gap) (2 * g) (omega arith)) (ap (λ l. p .item ∷ l) (pieces-gap g ps))
+            let e : p .gap ≡ g = eqb-true (p .gap) g h in
+            rw (h, eq-eqb (2 * p .gap) (2 * g) (omega arith)) (ap (λ l. p .item ∷ l) (pieces-gap g ps))
         | inr h ↦
-          let e = eqb-false (p .gap) g h in
-          rw (h, ne-eqb (2 * p .gap) (2 * g) (λ q. e (omega arith))) (pieces-gap g ps)
+            let e = eqb-false (p .gap) g h in
+            rw (h, ne-eqb (2 * p .gap) (2 * g) (λ q. e (omega arith))) (pieces-gap g ps)
       ]
 
   pieces-even : (g : ℕ) (ps : List (Placed A)) → All (λ p. num p ≡ 2 * g + 1 → ⊥) (piecesPlaced ps)
