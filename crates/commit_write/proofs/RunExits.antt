@@ -18,7 +18,7 @@ use Rattle.commit_rows.specs.declared.runs.RunKind.the-variants.{Other, Source,
 use Rattle.commit_rows.specs.declared.runs.RunRow.{RunRow}
 use Rattle.commit_write.specs.Put.{Put}
 use Rattle.commit_write.specs.Rows.{rowIn, countFrom, viewRows, viewBytes, RowThere, RowsThere}
-use Rattle.commit_write.specs.Buckets.{bucketAt, placedRows, BucketThere, BucketsThere, destinationRows}
+use Rattle.commit_write.specs.Buckets.{bucketAt, placedRows, BucketThere, BucketsThere, destinationRows, ChosenThere}
 use Rattle.commit_write.specs.Runs.{headBytes, sourceBytes, destinationBytes, runBytes, Bucketed, Copied, Taking, RunFits, RunWritable}
 use Rattle.commit_write.specs.declared.runs.Reached.{Reached}
 use Rattle.commit_write.proofs.Pieces.{put-length, put-same, first-room, second-room, both-put, both-length}
@@ -120,20 +120,20 @@ module _ {image job ids t order d : List ℕ} {r : RunRow} {at : Reached} (w : R
   pub taking-fits : Fits w64 (at .outputs + r .rows)
   taking-fits = omega (arith, taking .few)
 
-  pub taking-order : at .outputs + r .rows ≤ length order
-  taking-order = taking .room
-
   pub taking-head-room : at .to + 6 ≤ length d
   taking-head-room = head-room d (at .to) (r .id) (at .outputs + r .rows) all taking-room
 
-  pub taking-there : All (RowThere image job ids t) (placedRows (at .outputs) (at .row) (r .rows))
+  taking-there : All (RowThere image job ids t) (placedRows (at .outputs) (at .row) (r .rows))
   taking-there = All-append (RowThere image job ids t) (countFrom 0 (at .outputs)) (countFrom (at .row) (r .rows)) (w .outputs) (w .there)
 
-  pub taking-buckets : BucketsThere t (at .outputs) (at .row) (r .rows)
+  taking-buckets : BucketsThere t (at .outputs) (at .row) (r .rows)
   taking-buckets =
       All-append (BucketThere t) (countFrom 0 (at .outputs)) (countFrom (at .row) (r .rows))
       (bucketed image job ids t 0 (at .outputs) (w .outputs) (w .small))
       (bucketed image job ids t (at .row) (r .rows) (w .there) (taking .small))
+
+  pub taking-chosen : ChosenThere image job ids t order (record { outputs = at .outputs; from = at .row; count = r .rows })
+  taking-chosen = record { there = taking-there; buckets = taking-buckets; room = taking .room }
 
   module _ {e : List ℕ} {a : ℕ} (p : Put d (at .to) (headBytes (r .id) (at .outputs + r .rows)) e a) where
     pub taking-views-room : a + length (viewBytes image job ids (destinationRows (viewRows 0 (at .outputs) t) (viewRows (at .row) (r .rows) t))) ≤ length e
@@ -146,7 +146,7 @@ module _ {image job ids t order d : List ℕ} {r : RunRow} {at : Reached} (w : R
       pub taking-same : length f ≡ length d
       taking-same = both-length d (at .to) head all taking-room p q
 
-pub ruleset taking-exits = (taking-few, taking-fits, taking-order, taking-head-room, taking-there, taking-buckets, taking-views-room, taking-put, taking-same)
+pub ruleset taking-exits = (taking-few, taking-fits, taking-head-room, taking-chosen, taking-views-room, taking-put, taking-same)
 
 -- ---- put_run
 module _ {image job ids t order d : List ℕ} {r : RunRow} {at : Reached} (w : RunWritable image job ids t order r at d) where

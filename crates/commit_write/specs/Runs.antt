@@ -101,10 +101,16 @@ pub record Writable (image job ids runs rows order : List ℕ) (c : Counts) (out
   pub fit : RunsFit image (c .outputs) (length order) (runsIn (c .runs) runs) (drop (c .outputs) (allRows c runs rows))
   pub room : length (plannedImage image job ids runs rows c) ≤ length out
 
--- the same of one run, whose rows begin at a row and whose bytes go to a place
+-- ---- one run, whose rows begin at a row and whose bytes go to a place
+abbrev pub sourceAt : List ℕ → List ℕ → List ℕ → List ℕ → RunRow → Reached → List ℕ
+sourceAt image job ids rows r at = sourceBytes image job ids r (viewRows (at .row) (r .rows) rows)
+
+abbrev pub runAt : List ℕ → List ℕ → List ℕ → List ℕ → RunRow → Reached → List ℕ
+runAt image job ids rows r at = runBytes image job ids (viewRows 0 (at .outputs) rows) r (viewRows (at .row) (r .rows) rows)
+
 pub record RunWritable (image job ids rows order : List ℕ) (r : RunRow) (at : Reached) (out : List ℕ) : Type 0 where
   pub outputs : RowsThere image job ids rows 0 (at .outputs)
   pub small : Bucketed (viewRows 0 (at .outputs) rows)
   pub there : RowsThere image job ids rows (at .row) (r .rows)
   pub fits : RunFits image (at .outputs) (length order) r (viewRows (at .row) (r .rows) rows)
-  pub room : at .to + length (runBytes image job ids (viewRows 0 (at .outputs) rows) r (viewRows (at .row) (r .rows) rows)) ≤ length out
+  pub room : at .to + length (runAt image job ids rows r at) ≤ length out

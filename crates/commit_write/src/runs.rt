@@ -11,8 +11,8 @@ ghost use lib.ListN.{length};
 ghost use Rattle.base.specs.Splice.{splice};
 ghost use Rattle.commit_rows.specs.declared.runs.RunKind.the-variants.{Destination};
 ghost use Rattle.commit_write.specs.Put.{Put};
-ghost use Rattle.commit_write.specs.Rows.{viewRows, RowsThere};
-ghost use Rattle.commit_write.specs.Runs.{headBytes, sourceBytes, runBytes, runsWritten, plannedImage, Writable, RunWritable};
+ghost use Rattle.commit_write.specs.Rows.{RowsThere};
+ghost use Rattle.commit_write.specs.Runs.{headBytes, sourceAt, runAt, runsWritten, plannedImage, Writable, RunWritable};
 
 // How many runs there are, and how many outputs go into the destination.
 pub struct Counts {
@@ -48,8 +48,8 @@ fn put_source<'a>(
     out: &mut [u8],
 ) -> usize
     requires { ⌜ r .rows ≤ 1024 ⌝ ∗ ⌜ RowsThere (now image) (now job) (now ids) (now rows) (at .row) (r .rows) ⌝ }
-    requires { ⌜ at .to + length (sourceBytes (now image) (now job) (now ids) r (viewRows (at .row) (r .rows) (now rows))) ≤ length (now out) ⌝ }
-    ensures { λ z. ⌜ Put (now (out .entry)) (at .to) (sourceBytes (now (image .entry)) (now (job .entry)) (now (ids .entry)) r (viewRows (at .row) (r .rows) (now (rows .entry)))) (now (out .exit)) z ⌝ }
+    requires { ⌜ at .to + length (sourceAt (now image) (now job) (now ids) (now rows) r at) ≤ length (now out) ⌝ }
+    ensures { λ z. ⌜ Put (now (out .entry)) (at .to) (sourceAt (now (image .entry)) (now (job .entry)) (now (ids .entry)) (now (rows .entry)) r at) (now (out .exit)) z ⌝ }
 {
     let to = put_head(out, at.to, r.id, r.rows);
     put_rows(image, job, ids, rows, at.row, r.rows, out, to)
@@ -67,7 +67,7 @@ fn put_taking<'a>(
     out: &mut [u8],
 ) -> usize
     requires { ⌜ RunWritable (now image) (now job) (now ids) (now rows) (now order) r at (now out) ⌝ ∗ ⌜ r .kind ≡ Destination ⌝ }
-    ensures { λ z. ⌜ Put (now (out .entry)) (at .to) (runBytes (now (image .entry)) (now (job .entry)) (now (ids .entry)) (viewRows 0 (at .outputs) (now (rows .entry))) r (viewRows (at .row) (r .rows) (now (rows .entry)))) (now (out .exit)) z ⌝ }
+    ensures { λ z. ⌜ Put (now (out .entry)) (at .to) (runAt (now (image .entry)) (now (job .entry)) (now (ids .entry)) (now (rows .entry)) r at) (now (out .exit)) z ⌝ }
     ensures { λ z. ⌜ length (now (order .exit)) ≡ length (now (order .entry)) ⌝ }
 {
     let to = put_head(out, at.to, r.id, at.outputs + r.rows);
@@ -91,7 +91,7 @@ fn put_run<'a>(
     out: &mut [u8],
 ) -> usize
     requires { ⌜ RunWritable (now image) (now job) (now ids) (now rows) (now order) r at (now out) ⌝ }
-    ensures { λ z. ⌜ Put (now (out .entry)) (at .to) (runBytes (now (image .entry)) (now (job .entry)) (now (ids .entry)) (viewRows 0 (at .outputs) (now (rows .entry))) r (viewRows (at .row) (r .rows) (now (rows .entry)))) (now (out .exit)) z ⌝ }
+    ensures { λ z. ⌜ Put (now (out .entry)) (at .to) (runAt (now (image .entry)) (now (job .entry)) (now (ids .entry)) (now (rows .entry)) r at) (now (out .exit)) z ⌝ }
     ensures { λ z. ⌜ length (now (order .exit)) ≡ length (now (order .entry)) ⌝ }
 {
     let kind = r.kind;

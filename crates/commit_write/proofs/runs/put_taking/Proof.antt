@@ -12,7 +12,7 @@ put-head-requires : tie.Need-put-head-requires
 put-head-requires c κs = search (needs, taking-exits)
 
 put-destination-requires : tie.Need-put-destination-requires
-put-destination-requires c κs = (search (needs, taking-exits), (search (needs, taking-exits), (search (needs, taking-exits), search (needs, taking-exits))))
+put-destination-requires c κs = search (needs, taking-exits)
 
 same-length : tie.Need-same-length
 same-length c = search (needs, taking-exits)
