@@ -5,7 +5,6 @@ use native.Mathlib.Omega.{arith}
 use mathlib.Core.Path.{_≡_, refl, sym, ap, subst, _∙_}
 use mathlib.Core.List.{List, [], _∷_, _++_, map, append-assoc, append-nil}
 use lib.ListN.{length, take, drop, length-append, length-map, drop-of-length-le}
-use lib.Seq.{take-at}
 use mir.Val.{Fits}
 use mir.Syntax.{w64}
 use Rattle.base.specs.Lists.{All, All-left, All-unmapped, All-both}
@@ -13,7 +12,7 @@ use Rattle.base.specs.Rows.{rowAt, rowsIn, rows-at, length-rows}
 use Rattle.base.specs.Splice.{splice, splice-splice, length-splice}
 use Rattle.format.specs.Number.{writeNumber}
 use Rattle.format.proofs.Layouts.{number-length}
-use Rattle.commit_rows.specs.Numbers.{rowOf, runOf}
+use Rattle.commit_rows.specs.Numbers.{runOf}
 use Rattle.commit_rows.specs.Bytes.{RowInside}
 use Rattle.commit_rows.specs.declared.rows.Row.{Row}
 use Rattle.commit_rows.specs.declared.runs.RunRow.{RunRow}
@@ -21,9 +20,8 @@ use Rattle.commit_write.specs.Put.{Put}
 use Rattle.commit_write.specs.Rows.{rowIn, countFrom, viewRows, RowThere, RowsThere}
 use Rattle.commit_write.specs.Runs.{runBytes, runsBytes, newImageBytes, runsIn, planned, allRows, runsWritten, plannedImage, Bucketed, RunFits, RunsFit, Writable, RunWritable}
 use Rattle.commit_write.specs.declared.runs.Counts.{Counts}
-use Rattle.commit_write.specs.declared.runs.Reached.{Reached}
-use Rattle.commit_write.proofs.Pieces.{put-length, put-none, put-same, first-room, second-room, both-put, both-length}
-use Rattle.commit_write.proofs.Counts.{count-append, count-all, length-count, rows-numbered, rows-length, rows-take, rows-skip}
+use Rattle.commit_write.proofs.Pieces.{put-length, put-none, first-room, second-room, both-put}
+use Rattle.commit_write.proofs.Counts.{count-append, count-all, rows-numbered, rows-take, rows-skip}
 
 -- ---- a run, and those after it
 drop-map : {A B : Type 0} (f : A → B) (k : ℕ) (xs : List A) → drop k (map f xs) ≡ map f (drop k xs)

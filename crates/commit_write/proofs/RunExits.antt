@@ -1,9 +1,9 @@
 -- The exits of the functions that put one run.
 -- Assumes nothing.
-use Prim.Native.Nat.{ℕ, _+_, _-_, _*_, _≤_, _<_, _^_}
+use Prim.Native.Nat.{ℕ, _+_, _-_, _*_, _≤_, _<_}
 use native.Mathlib.Omega.{arith}
-use mathlib.Core.Path.{_≡_, refl, sym, ap, subst, _∙_}
-use mathlib.Core.List.{List, [], _∷_, _++_, map}
+use mathlib.Core.Path.{_≡_, sym, ap, _∙_}
+use mathlib.Core.List.{List, _++_}
 use lib.ListN.{length, length-append}
 use mir.Val.{Fits}
 use mir.Syntax.{w64}
@@ -13,13 +13,12 @@ use Rattle.format.specs.Number.{writeNumber}
 use Rattle.format.proofs.Layouts.{number-length}
 use Rattle.commit_rows.specs.Bytes.{between}
 use Rattle.commit_rows.specs.declared.rows.Row.{Row}
-use Rattle.commit_rows.specs.declared.runs.RunKind.{RunKind}
 use Rattle.commit_rows.specs.declared.runs.RunKind.the-variants.{Other, Source, Destination}
 use Rattle.commit_rows.specs.declared.runs.RunRow.{RunRow}
 use Rattle.commit_write.specs.Put.{Put}
 use Rattle.commit_write.specs.Rows.{rowIn, countFrom, viewRows, viewBytes, RowThere, RowsThere}
-use Rattle.commit_write.specs.Buckets.{bucketAt, placedRows, BucketThere, BucketsThere, destinationRows, ChosenThere}
-use Rattle.commit_write.specs.Runs.{headBytes, sourceBytes, destinationBytes, runBytes, Bucketed, Copied, Taking, RunFits, RunWritable}
+use Rattle.commit_write.specs.Buckets.{placedRows, BucketThere, BucketsThere, destinationRows, ChosenThere}
+use Rattle.commit_write.specs.Runs.{headBytes, sourceBytes, destinationBytes, runBytes, Bucketed, Copied, Taking, RunWritable}
 use Rattle.commit_write.specs.declared.runs.Reached.{Reached}
 use Rattle.commit_write.proofs.Pieces.{put-length, put-same, first-room, second-room, both-put, both-length}
 use Rattle.commit_write.proofs.Counts.{rows-length}
