@@ -24,7 +24,7 @@ use Rattle.commit_write.proofs.Pieces.{put-length, put-same, first-room
 use Rattle.commit_write.proofs.Counts.{rows-length}
 
 -- ---- put_head
-head-length : (i n : ℕ) → length (headBytes i n) ≡ 6
+pub head-length : (i n : ℕ) → length (headBytes i n) ≡ 6
 unfolding headBytes
 head-length i n = length-append (writeNumber 4 i) (writeNumber 2 (n * 16)) ∙ rw (number-length 4 i, number-length 2 (n * 16))
 
