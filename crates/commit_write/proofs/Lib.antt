@@ -10,3 +10,4 @@ pub mod Placed
 pub mod RunExits
 pub mod ImageExits
 pub mod Sizes
+pub mod Made

@@ -78,15 +78,15 @@ pub ruleset source-exits = (source-head-room, source-views-room, source-put, sou
 
 -- ---- the bytes of a run by its kind
 module _ (image job ids : List ℕ) (outputs : List Row) (r : RunRow) (rows : List Row) where
-  other-bytes : r .kind ≡ Other → between image (r .first - 6) (r .past) ≡ runBytes image job ids outputs r rows
+  pub other-bytes : r .kind ≡ Other → between image (r .first - 6) (r .past) ≡ runBytes image job ids outputs r rows
   unfolding runBytes
   other-bytes e = rw e
 
-  source-bytes : r .kind ≡ Source → sourceBytes image job ids r rows ≡ runBytes image job ids outputs r rows
+  pub source-bytes : r .kind ≡ Source → sourceBytes image job ids r rows ≡ runBytes image job ids outputs r rows
   unfolding runBytes
   source-bytes e = rw e
 
-  taking-bytes : r .kind ≡ Destination → destinationBytes image job ids outputs r rows ≡ runBytes image job ids outputs r rows
+  pub taking-bytes : r .kind ≡ Destination → destinationBytes image job ids outputs r rows ≡ runBytes image job ids outputs r rows
   unfolding runBytes
   taking-bytes e = rw e
 

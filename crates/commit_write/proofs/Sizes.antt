@@ -1,6 +1,6 @@
 -- How many bytes the planned image takes.
 -- Assumes nothing.
-use Prim.Native.Nat.{ℕ, zero, suc, _+_, _-_, _<_, _≤_}
+use Prim.Native.Nat.{ℕ, zero, suc, _+_, _-_, _<_}
 use native.Mathlib.Omega.{arith}
 use mathlib.Core.Path.{_≡_, refl, sym, ap, _∙_}
 use mathlib.Core.List.{List, [], _∷_, _++_, map, flatMap}
@@ -8,7 +8,7 @@ use lib.ListN.{length, take, drop, length-append}
 use Rattle.base.specs.Lists.{All, All-append, map-append}
 use Rattle.format.specs.Number.{writeNumber}
 use Rattle.format.proofs.Layouts.{number-length}
-use Rattle.commit_rows.specs.Bytes.{between, RowInside, rowBytes, rowLength}
+use Rattle.commit_rows.specs.Bytes.{RowInside, rowBytes, rowLength}
 use Rattle.commit_rows.proofs.Lengths.{between-length, row-length}
 use Rattle.commit_rows.specs.declared.rows.Row.{Row}
 use Rattle.commit_rows.specs.declared.runs.RunKind.{RunKind}
