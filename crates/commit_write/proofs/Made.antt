@@ -23,7 +23,7 @@ use Rattle.commit_write.specs.Buckets.{byBucket, destinationRows}
 use Rattle.commit_write.specs.BucketLaws.{by-length, by-each}
 use Rattle.commit_write.specs.Runs.{headBytes, runBytes, runsBytes, newImageBytes, runsIn, planned, allRows, plannedImage, Bucketed, RunsFit, Writable}
 use Rattle.commit_write.specs.declared.runs.Counts.{Counts}
-use Rattle.commit_write.proofs.RunExits.{other-bytes, source-bytes, taking-bytes}
+use Rattle.commit_write.proofs.RunExits.{other-bytes, source-bytes, destination-run-bytes}
 use Rattle.commit_write.proofs.Placed.{outputsPlaced, piecesPlaced, RowFor, buckets-are-gaps, destination-bytes}
 
 -- ---- the layouts
@@ -62,7 +62,7 @@ module _ (given job ids : List ℕ) (outputs : List Row) where
 
       pub destination-made : r .kind ≡ Destination → length outputs + r .rows ≡ length vs → viewBytes given job ids (destinationRows outputs rows) ≡ writeMany (view .write) vs → runBytes given job ids outputs r rows ≡ run .write (record { id = r .id; views = vs })
       destination-made k n e =
-          sym (taking-bytes given job ids outputs r rows k)
+          sym (destination-run-bytes given job ids outputs r rows k)
           ∙ ap (λ c. headBytes (r .id) c ++ viewBytes given job ids (destinationRows outputs rows)) n
           ∙ ap (λ l. headBytes (r .id) (length vs) ++ l) e
           ∙ sym (run-is (r .id) vs)

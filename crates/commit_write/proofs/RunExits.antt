@@ -18,7 +18,7 @@ use Rattle.commit_rows.specs.declared.runs.RunRow.{RunRow}
 use Rattle.commit_write.specs.Put.{Put}
 use Rattle.commit_write.specs.Rows.{rowIn, countFrom, viewRows, viewBytes, RowThere, RowsThere}
 use Rattle.commit_write.specs.Buckets.{placedRows, BucketThere, BucketsThere, destinationRows, ChosenThere}
-use Rattle.commit_write.specs.Runs.{headBytes, sourceBytes, destinationBytes, runBytes, Bucketed, Copied, Taking, RunWritable}
+use Rattle.commit_write.specs.Runs.{headBytes, sourceBytes, destinationBytes, runBytes, Bucketed, Copied, DestinationFits, RunWritable}
 use Rattle.commit_write.specs.declared.runs.Reached.{Reached}
 use Rattle.commit_write.proofs.Pieces.{put-length, put-same, first-room, second-room, both-put, both-length}
 use Rattle.commit_write.proofs.Counts.{rows-length}
@@ -55,7 +55,7 @@ module _ (d : List ℕ) (to i n : ℕ) (vs : List ℕ) (room : to + length (head
   head-room : to + 6 ≤ length d
   head-room = omega (arith, first-room d to (headBytes i n) vs room, head-length i n)
 
--- ---- put_source
+-- ---- put_source_run
 module _ (image job ids t d : List ℕ) (r : RunRow) (at : Reached) (room : at .to + length (sourceBytes image job ids r (viewRows (at .row) (r .rows) t)) ≤ length d) where
   abbrev views : List ℕ
   views = viewBytes image job ids (viewRows (at .row) (r .rows) t)
@@ -86,18 +86,18 @@ module _ (image job ids : List ℕ) (outputs : List Row) (r : RunRow) (rows : Li
   unfolding runBytes
   source-bytes e = rw e
 
-  pub taking-bytes : r .kind ≡ Destination → destinationBytes image job ids outputs r rows ≡ runBytes image job ids outputs r rows
+  pub destination-run-bytes : r .kind ≡ Destination → destinationBytes image job ids outputs r rows ≡ runBytes image job ids outputs r rows
   unfolding runBytes
-  taking-bytes e = rw e
+  destination-run-bytes e = rw e
 
--- ---- put_taking
+-- ---- put_destination_run
 bucketed : (image job ids t : List ℕ) (from n : ℕ) → RowsThere image job ids t from n → Bucketed (viewRows from n t) → All (BucketThere t) (countFrom from n)
 bucketed image job ids t from n a b =
     All-both (λ k x y. record { long = x .long; small = y }) (countFrom from n) a (All-unmapped (λ (r : Row). r .bucket < 131) (rowIn t) (countFrom from n) b)
 
 module _ {image job ids t order d : List ℕ} {r : RunRow} {at : Reached} (w : RunWritable image job ids t order r at d) (k : r .kind ≡ Destination) where
-  taking : Taking (at .outputs) (length order) r (viewRows (at .row) (r .rows) t)
-  taking = w .fits .destination k
+  fitted : DestinationFits (at .outputs) (length order) r (viewRows (at .row) (r .rows) t)
+  fitted = w .fits .destination k
 
   abbrev all : List ℕ
   all = viewBytes image job ids (destinationRows (viewRows 0 (at .outputs) t) (viewRows (at .row) (r .rows) t))
@@ -105,47 +105,47 @@ module _ {image job ids t order d : List ℕ} {r : RunRow} {at : Reached} (w : R
   abbrev head : List ℕ
   head = headBytes (r .id) (at .outputs + r .rows)
 
-  taking-is : head ++ all ≡ runBytes image job ids (viewRows 0 (at .outputs) t) r (viewRows (at .row) (r .rows) t)
-  taking-is =
+  destination-is : head ++ all ≡ runBytes image job ids (viewRows 0 (at .outputs) t) r (viewRows (at .row) (r .rows) t)
+  destination-is =
       ap (λ m. headBytes (r .id) (m + r .rows) ++ all) (sym (rows-length 0 (at .outputs) t))
-      ∙ taking-bytes image job ids (viewRows 0 (at .outputs) t) r (viewRows (at .row) (r .rows) t) k
+      ∙ destination-run-bytes image job ids (viewRows 0 (at .outputs) t) r (viewRows (at .row) (r .rows) t) k
 
-  taking-room : at .to + length (head ++ all) ≤ length d
-  taking-room = rw taking-is (w .room)
+  destination-room : at .to + length (head ++ all) ≤ length d
+  destination-room = rw destination-is (w .room)
 
-  pub taking-few : at .outputs + r .rows ≤ 1024
-  taking-few = taking .few
+  pub destination-few : at .outputs + r .rows ≤ 1024
+  destination-few = fitted .few
 
-  pub taking-fits : Fits w64 (at .outputs + r .rows)
-  taking-fits = omega (arith, taking .few)
+  pub destination-fits : Fits w64 (at .outputs + r .rows)
+  destination-fits = omega (arith, fitted .few)
 
-  pub taking-head-room : at .to + 6 ≤ length d
-  taking-head-room = head-room d (at .to) (r .id) (at .outputs + r .rows) all taking-room
+  pub destination-head-room : at .to + 6 ≤ length d
+  destination-head-room = head-room d (at .to) (r .id) (at .outputs + r .rows) all destination-room
 
-  taking-there : All (RowThere image job ids t) (placedRows (at .outputs) (at .row) (r .rows))
-  taking-there = All-append (RowThere image job ids t) (countFrom 0 (at .outputs)) (countFrom (at .row) (r .rows)) (w .outputs) (w .there)
+  destination-there : All (RowThere image job ids t) (placedRows (at .outputs) (at .row) (r .rows))
+  destination-there = All-append (RowThere image job ids t) (countFrom 0 (at .outputs)) (countFrom (at .row) (r .rows)) (w .outputs) (w .there)
 
-  taking-buckets : BucketsThere t (at .outputs) (at .row) (r .rows)
-  taking-buckets =
+  destination-buckets : BucketsThere t (at .outputs) (at .row) (r .rows)
+  destination-buckets =
       All-append (BucketThere t) (countFrom 0 (at .outputs)) (countFrom (at .row) (r .rows))
       (bucketed image job ids t 0 (at .outputs) (w .outputs) (w .small))
-      (bucketed image job ids t (at .row) (r .rows) (w .there) (taking .small))
+      (bucketed image job ids t (at .row) (r .rows) (w .there) (fitted .small))
 
-  pub taking-chosen : ChosenThere image job ids t order (record { outputs = at .outputs; from = at .row; count = r .rows })
-  taking-chosen = record { there = taking-there; buckets = taking-buckets; room = taking .room }
+  pub destination-chosen : ChosenThere image job ids t order (record { outputs = at .outputs; from = at .row; count = r .rows })
+  destination-chosen = record { there = destination-there; buckets = destination-buckets; room = fitted .room }
 
   module _ {e : List ℕ} {a : ℕ} (p : Put d (at .to) (headBytes (r .id) (at .outputs + r .rows)) e a) where
-    pub taking-views-room : a + length (viewBytes image job ids (destinationRows (viewRows 0 (at .outputs) t) (viewRows (at .row) (r .rows) t))) ≤ length e
-    taking-views-room = second-room d (at .to) head all taking-room p
+    pub destination-views-room : a + length (viewBytes image job ids (destinationRows (viewRows 0 (at .outputs) t) (viewRows (at .row) (r .rows) t))) ≤ length e
+    destination-views-room = second-room d (at .to) head all destination-room p
 
     module _ {f : List ℕ} {b : ℕ} (q : Put e a (viewBytes image job ids (destinationRows (viewRows 0 (at .outputs) t) (viewRows (at .row) (r .rows) t))) f b) where
-      pub taking-put : Put d (at .to) (runBytes image job ids (viewRows 0 (at .outputs) t) r (viewRows (at .row) (r .rows) t)) f b
-      taking-put = put-same (both-put d (at .to) head all taking-room p q) taking-is
+      pub destination-put : Put d (at .to) (runBytes image job ids (viewRows 0 (at .outputs) t) r (viewRows (at .row) (r .rows) t)) f b
+      destination-put = put-same (both-put d (at .to) head all destination-room p q) destination-is
 
-      pub taking-same : length f ≡ length d
-      taking-same = both-length d (at .to) head all taking-room p q
+      pub destination-same : length f ≡ length d
+      destination-same = both-length d (at .to) head all destination-room p q
 
-pub ruleset taking-exits = (taking-few, taking-fits, taking-head-room, taking-chosen, taking-views-room, taking-put, taking-same)
+pub ruleset destination-exits = (destination-few, destination-fits, destination-head-room, destination-chosen, destination-views-room, destination-put, destination-same)
 
 -- ---- put_run
 module _ {image job ids t order d : List ℕ} {r : RunRow} {at : Reached} (w : RunWritable image job ids t order r at d) where

@@ -78,7 +78,7 @@ pub record Copied (image : List ℕ) (r : RunRow) : Type 0 where
   pub past : r .past ≤ length image
 
 -- the one that takes m outputs has places for all of its rows
-pub record Taking (m places : ℕ) (r : RunRow) (rows : List Row) : Type 0 where
+pub record DestinationFits (m places : ℕ) (r : RunRow) (rows : List Row) : Type 0 where
   pub few : m + r .rows ≤ 1024
   pub room : m + r .rows ≤ places
   pub small : Bucketed rows
@@ -86,7 +86,7 @@ pub record Taking (m places : ℕ) (r : RunRow) (rows : List Row) : Type 0 where
 pub record RunFits (image : List ℕ) (m places : ℕ) (r : RunRow) (rows : List Row) : Type 0 where
   pub other : r .kind ≡ Other → Copied image r
   pub source : r .kind ≡ Source → r .rows ≤ 1024
-  pub destination : r .kind ≡ Destination → Taking m places r rows
+  pub destination : r .kind ≡ Destination → DestinationFits m places r rows
 
 abbrev pub RunsFit : List ℕ → ℕ → ℕ → List RunRow → List Row → Type 0
 RunsFit image m places [] rows = Unit {0}

@@ -38,7 +38,7 @@ fn put_head(out: &mut [u8], to: usize, id: usize, count: usize) -> usize
 }
 
 // A source: what is left of its views.
-fn put_source<'a>(
+fn put_source_run<'a>(
     image: &'a [u8],
     job: &'a [u8],
     ids: &[u8],
@@ -56,7 +56,7 @@ fn put_source<'a>(
 }
 
 // The destination: what is left of its views, and the outputs between them.
-fn put_taking<'a>(
+fn put_destination_run<'a>(
     image: &'a [u8],
     job: &'a [u8],
     ids: &[u8],
@@ -97,8 +97,8 @@ fn put_run<'a>(
     let kind = r.kind;
     match kind {
         RunKind::Other => put_part(image, r.first - 6, r.past, out, at.to),
-        RunKind::Source => put_source(image, job, ids, rows, r, at, out),
-        RunKind::Destination => put_taking(image, job, ids, rows, order, r, at, out),
+        RunKind::Source => put_source_run(image, job, ids, rows, r, at, out),
+        RunKind::Destination => put_destination_run(image, job, ids, rows, order, r, at, out),
     }
 }
 

@@ -17,14 +17,14 @@ put-part-requires c κs = search (needs, run-exits)
 enum-told-2 : tie.Need-enum-told-2
 enum-told-2 c = search (needs, run-exits)
 
-put-source-requires : tie.Need-put-source-requires
-put-source-requires c κs = search (needs, run-exits)
+put-source-run-requires : tie.Need-put-source-run-requires
+put-source-run-requires c κs = search (needs, run-exits)
 
 enum-told-3 : tie.Need-enum-told-3
 enum-told-3 c = search (needs, run-exits)
 
-put-taking-requires : tie.Need-put-taking-requires
-put-taking-requires c κs = search (needs, run-exits)
+put-destination-run-requires : tie.Need-put-destination-run-requires
+put-destination-run-requires c κs = search (needs, run-exits)
 
 same-length : tie.Need-same-length
 same-length c = search (needs, run-exits)
@@ -55,9 +55,9 @@ put-run-spec =
     sub-put-part
     put-part-requires
     enum-told-2
-    put-source-requires
+    put-source-run-requires
     enum-told-3
-    put-taking-requires
+    put-destination-run-requires
     same-length
     returns
     same-length-2
