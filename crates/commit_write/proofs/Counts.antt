@@ -3,14 +3,13 @@
 use Prim.Native.Nat.{ℕ, zero, suc, _+_, _-_, _*_, _≤_, _<_}
 use native.Mathlib.Omega.{arith}
 use native.Mathlib.Numerals.{add-one}
-use mathlib.Core.Path.{_≡_, refl, sym, ap, _∙_}
+use mathlib.Core.Path.{_≡_, refl, ap, _∙_}
 use mathlib.Core.List.{List, [], _∷_, _++_, map}
-use lib.ListN.{length, getD, take, drop, length-append, length-map}
-use lib.Seq.{take-suc, drop-cons, take-at, drop-at, drop-drop, getD-append-add}
-use Rattle.base.specs.Lists.{All, All-append, map-append}
+use lib.ListN.{length, getD, take, drop, length-map}
+use lib.Seq.{take-suc, drop-cons, take-at, drop-at, drop-drop}
+use Rattle.base.specs.Lists.{All, map-append}
 use Rattle.base.specs.Rows.{rowsIn, rowAt}
 use Rattle.commit_rows.specs.Numbers.{rowOf}
-use Rattle.commit_rows.specs.declared.rows.Row.{Row}
 use Rattle.commit_write.specs.Rows.{rowIn, countFrom, viewRows}
 
 pub length-count : (k n : ℕ) → length (countFrom k n) ≡ n

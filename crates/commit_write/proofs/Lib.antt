@@ -7,3 +7,7 @@ pub mod Summing
 pub mod Slots
 pub mod Placing
 pub mod Placed
+pub mod RunExits
+pub mod ImageExits
+pub mod Sizes
+pub mod Made

@@ -1,21 +1,16 @@
 -- Bytes that are put one after another.
 -- Assumes nothing.
-use Prim.Native.Nat.{ℕ, _+_, _≤_, _<_, _^_}
+use Prim.Native.Nat.{ℕ, _+_, _≤_}
 use native.Mathlib.Omega.{arith}
-use mathlib.Core.Path.{_≡_, refl, sym, ap, _∙_}
-use mathlib.Core.List.{List, [], _∷_, _++_, append-assoc}
+use mathlib.Core.Path.{_≡_, sym, ap, _∙_}
+use mathlib.Core.List.{List, [], _++_}
 use lib.ListN.{length, length-append}
-use mir.Val.{Fits}
-use mir.Syntax.{w64}
 use Rattle.base.specs.Splice.{splice, splice-none, length-splice, splice-splice}
 use Rattle.commit_write.specs.Put.{Put}
 
 -- ---- one piece
 pub put-length : {d : List ℕ} {to : ℕ} {x e : List ℕ} {past : ℕ} → Put d to x e past → to + length x ≤ length d → length e ≡ length d
 put-length {d} {to} {x} p h = ap length (p .is) ∙ length-splice d to x h
-
-pub put-fits : {d : List ℕ} {to : ℕ} {x e : List ℕ} {past : ℕ} → Put d to x e past → to + length x ≤ length d → past ≤ length e
-put-fits p h = omega (arith, put-length p h, p .past-is)
 
 pub put-here : (d : List ℕ) (to : ℕ) (x : List ℕ) {e : List ℕ} {past : ℕ} → e ≡ splice d to x → past ≡ to + length x → Put d to x e past
 put-here d to x e p = record { is = e; past-is = p }
@@ -48,8 +43,6 @@ module _ (d : List ℕ) (to : ℕ) (x y : List ℕ) (room : to + length (x ++ y)
 
     pub both-length : {f : List ℕ} {b : ℕ} → Put e a y f b → length f ≡ length d
     both-length q = put-length q second-room ∙ put-length p first-room
-
-pub ruleset pieces = (first-room, second-room, both-put, both-length)
 
 -- ---- three
 module _ (d : List ℕ) (to : ℕ) (x y z : List ℕ) (room : to + length (x ++ (y ++ z)) ≤ length d) where

@@ -2,3 +2,5 @@ pub mod Put
 pub mod Rows
 pub mod Buckets
 pub mod BucketLaws
+pub mod Runs
+pub mod Lengths

@@ -1,9 +1,8 @@
 // The image that a commit was planned to make, written from rows into a lent buffer that has room for it.
 mod destination;
 mod rows;
+mod runs;
 mod views;
 
-pub use destination::Chosen;
-pub use destination::put_destination;
-pub use rows::put_rows;
-pub use views::put_view;
+pub use runs::Counts;
+pub use runs::put_image;

@@ -3,7 +3,6 @@
 use Rattle.commit_write.proofs.Writing.{order-exits}
 use Prim.Native.Nat.{_-_}
 use lib.ListN.{take}
-use Rattle.commit_write.specs.Rows.{countFrom}
 use Rattle.commit_write.proofs.Writing.{Writing}
 use borrow.Author.Needs.{needs}
 use Rattle.commit_write.proofs.rows.put_in_order.Statement.{statement}

@@ -2,7 +2,6 @@
 -- Assumes nothing.
 use Rattle.commit_write.proofs.Writing.{rows-exits}
 use Prim.Native.Nat.{_-_}
-use lib.ListN.{take}
 use Rattle.commit_write.specs.Rows.{countFrom}
 use Rattle.commit_write.proofs.Writing.{Writing}
 use borrow.Author.Needs.{needs}

@@ -1,0 +1,199 @@
+-- The exits of the functions that put one run.
+-- Assumes nothing.
+use Prim.Native.Nat.{ℕ, _+_, _-_, _*_, _≤_, _<_}
+use native.Mathlib.Omega.{arith}
+use mathlib.Core.Path.{_≡_, sym, ap, _∙_}
+use mathlib.Core.List.{List, _++_}
+use lib.ListN.{length, length-append}
+use mir.Val.{Fits}
+use mir.Syntax.{w64}
+use Rattle.base.specs.Lists.{All, All-append, All-both, All-unmapped}
+use Rattle.base.specs.Splice.{splice, splice-splice, length-splice}
+use Rattle.format.specs.Number.{writeNumber}
+use Rattle.format.proofs.Layouts.{number-length}
+use Rattle.commit_rows.specs.Bytes.{between}
+use Rattle.commit_rows.specs.declared.rows.Row.{Row}
+use Rattle.commit_rows.specs.declared.runs.RunKind.the-variants.{Other, Source, Destination}
+use Rattle.commit_rows.specs.declared.runs.RunRow.{RunRow}
+use Rattle.commit_write.specs.Put.{Put}
+use Rattle.commit_write.specs.Rows.{rowIn, countFrom, viewRows, viewBytes, RowThere, RowsThere}
+use Rattle.commit_write.specs.Buckets.{placedRows, BucketThere, BucketsThere, destinationRows, ChosenThere}
+use Rattle.commit_write.specs.Runs.{headBytes, sourceBytes, destinationBytes, runBytes, Bucketed, Copied, DestinationFits, RunWritable}
+use Rattle.commit_write.specs.declared.runs.Reached.{Reached}
+use Rattle.commit_write.proofs.Pieces.{put-length, put-same, first-room, second-room, both-put, both-length}
+use Rattle.commit_write.proofs.Counts.{rows-length}
+
+-- ---- put_head
+pub head-length : (i n : ℕ) → length (headBytes i n) ≡ 6
+unfolding headBytes
+head-length i n = length-append (writeNumber 4 i) (writeNumber 2 (n * 16)) ∙ rw (number-length 4 i, number-length 2 (n * 16))
+
+module _ (d : List ℕ) (to i n : ℕ) (h : to + 6 ≤ length d) {o : List ℕ} (a : o ≡ splice d to (writeNumber 4 i)) where
+  id-long : length o ≡ length d
+  id-long = let l = number-length 4 i in ap length a ∙ length-splice d to (writeNumber 4 i) (omega (arith, l))
+
+  pub head-rest : to + 4 + 2 ≤ length o
+  head-rest = omega (arith, id-long)
+
+  module _ {o′ : List ℕ} (b : o′ ≡ splice o (to + 4) (writeNumber 2 (n * 16))) where
+    pub head-put : Put d to (headBytes i n) o′ (to + 6)
+    unfolding headBytes
+    head-put =
+        let l = number-length 4 i in
+        record {
+          is = b ∙ ap (λ z. splice z (to + 4) (writeNumber 2 (n * 16))) a ∙ splice-splice d to (writeNumber 4 i) (writeNumber 2 (n * 16)) (to + 4) (omega (arith, l)) (omega (arith, l));
+          past-is = omega (arith, head-length i n);
+        }
+
+    pub head-same : length o′ ≡ length d
+    head-same = put-length head-put (rw (head-length i n) h)
+
+pub ruleset head-exits = (head-rest, head-put, head-same)
+
+-- a head and views
+module _ (d : List ℕ) (to i n : ℕ) (vs : List ℕ) (room : to + length (headBytes i n ++ vs) ≤ length d) where
+  head-room : to + 6 ≤ length d
+  head-room = omega (arith, first-room d to (headBytes i n) vs room, head-length i n)
+
+-- ---- put_source_run
+module _ (image job ids t d : List ℕ) (r : RunRow) (at : Reached) (room : at .to + length (sourceBytes image job ids r (viewRows (at .row) (r .rows) t)) ≤ length d) where
+  abbrev views : List ℕ
+  views = viewBytes image job ids (viewRows (at .row) (r .rows) t)
+
+  pub source-head-room : at .to + 6 ≤ length d
+  source-head-room = head-room d (at .to) (r .id) (r .rows) views room
+
+  module _ {e : List ℕ} {a : ℕ} (p : Put d (at .to) (headBytes (r .id) (r .rows)) e a) where
+    pub source-views-room : a + length (viewBytes image job ids (viewRows (at .row) (r .rows) t)) ≤ length e
+    source-views-room = second-room d (at .to) (headBytes (r .id) (r .rows)) views room p
+
+    module _ {f : List ℕ} {b : ℕ} (q : Put e a (viewBytes image job ids (viewRows (at .row) (r .rows) t)) f b) where
+      pub source-put : Put d (at .to) (sourceBytes image job ids r (viewRows (at .row) (r .rows) t)) f b
+      source-put = both-put d (at .to) (headBytes (r .id) (r .rows)) views room p q
+
+      pub source-same : length f ≡ length d
+      source-same = both-length d (at .to) (headBytes (r .id) (r .rows)) views room p q
+
+pub ruleset source-exits = (source-head-room, source-views-room, source-put, source-same)
+
+-- ---- the bytes of a run by its kind
+module _ (image job ids : List ℕ) (outputs : List Row) (r : RunRow) (rows : List Row) where
+  pub other-bytes : r .kind ≡ Other → between image (r .first - 6) (r .past) ≡ runBytes image job ids outputs r rows
+  unfolding runBytes
+  other-bytes e = rw e
+
+  pub source-bytes : r .kind ≡ Source → sourceBytes image job ids r rows ≡ runBytes image job ids outputs r rows
+  unfolding runBytes
+  source-bytes e = rw e
+
+  pub destination-run-bytes : r .kind ≡ Destination → destinationBytes image job ids outputs r rows ≡ runBytes image job ids outputs r rows
+  unfolding runBytes
+  destination-run-bytes e = rw e
+
+-- ---- put_destination_run
+bucketed : (image job ids t : List ℕ) (from n : ℕ) → RowsThere image job ids t from n → Bucketed (viewRows from n t) → All (BucketThere t) (countFrom from n)
+bucketed image job ids t from n a b =
+    All-both (λ k x y. record { long = x .long; small = y }) (countFrom from n) a (All-unmapped (λ (r : Row). r .bucket < 131) (rowIn t) (countFrom from n) b)
+
+module _ {image job ids t order d : List ℕ} {r : RunRow} {at : Reached} (w : RunWritable image job ids t order r at d) (k : r .kind ≡ Destination) where
+  fitted : DestinationFits (at .outputs) (length order) r (viewRows (at .row) (r .rows) t)
+  fitted = w .fits .destination k
+
+  abbrev all : List ℕ
+  all = viewBytes image job ids (destinationRows (viewRows 0 (at .outputs) t) (viewRows (at .row) (r .rows) t))
+
+  abbrev head : List ℕ
+  head = headBytes (r .id) (at .outputs + r .rows)
+
+  destination-is : head ++ all ≡ runBytes image job ids (viewRows 0 (at .outputs) t) r (viewRows (at .row) (r .rows) t)
+  destination-is =
+      ap (λ m. headBytes (r .id) (m + r .rows) ++ all) (sym (rows-length 0 (at .outputs) t))
+      ∙ destination-run-bytes image job ids (viewRows 0 (at .outputs) t) r (viewRows (at .row) (r .rows) t) k
+
+  destination-room : at .to + length (head ++ all) ≤ length d
+  destination-room = rw destination-is (w .room)
+
+  pub destination-few : at .outputs + r .rows ≤ 1024
+  destination-few = fitted .few
+
+  pub destination-fits : Fits w64 (at .outputs + r .rows)
+  destination-fits = omega (arith, fitted .few)
+
+  pub destination-head-room : at .to + 6 ≤ length d
+  destination-head-room = head-room d (at .to) (r .id) (at .outputs + r .rows) all destination-room
+
+  destination-there : All (RowThere image job ids t) (placedRows (at .outputs) (at .row) (r .rows))
+  destination-there = All-append (RowThere image job ids t) (countFrom 0 (at .outputs)) (countFrom (at .row) (r .rows)) (w .outputs) (w .there)
+
+  destination-buckets : BucketsThere t (at .outputs) (at .row) (r .rows)
+  destination-buckets =
+      All-append (BucketThere t) (countFrom 0 (at .outputs)) (countFrom (at .row) (r .rows))
+      (bucketed image job ids t 0 (at .outputs) (w .outputs) (w .small))
+      (bucketed image job ids t (at .row) (r .rows) (w .there) (fitted .small))
+
+  pub destination-chosen : ChosenThere image job ids t order (record { outputs = at .outputs; from = at .row; count = r .rows })
+  destination-chosen = record { there = destination-there; buckets = destination-buckets; room = fitted .room }
+
+  module _ {e : List ℕ} {a : ℕ} (p : Put d (at .to) (headBytes (r .id) (at .outputs + r .rows)) e a) where
+    pub destination-views-room : a + length (viewBytes image job ids (destinationRows (viewRows 0 (at .outputs) t) (viewRows (at .row) (r .rows) t))) ≤ length e
+    destination-views-room = second-room d (at .to) head all destination-room p
+
+    module _ {f : List ℕ} {b : ℕ} (q : Put e a (viewBytes image job ids (destinationRows (viewRows 0 (at .outputs) t) (viewRows (at .row) (r .rows) t))) f b) where
+      pub destination-put : Put d (at .to) (runBytes image job ids (viewRows 0 (at .outputs) t) r (viewRows (at .row) (r .rows) t)) f b
+      destination-put = put-same (both-put d (at .to) head all destination-room p q) destination-is
+
+      pub destination-same : length f ≡ length d
+      destination-same = both-length d (at .to) head all destination-room p q
+
+pub ruleset destination-exits = (destination-few, destination-fits, destination-head-room, destination-chosen, destination-views-room, destination-put, destination-same)
+
+-- ---- put_run
+module _ {image job ids t order d : List ℕ} {r : RunRow} {at : Reached} (w : RunWritable image job ids t order r at d) where
+  abbrev outs : List Row
+  outs = viewRows 0 (at .outputs) t
+
+  abbrev own : List Row
+  own = viewRows (at .row) (r .rows) t
+
+  pub run-same : {f : List ℕ} {b : ℕ} → Put d (at .to) (runBytes image job ids (viewRows 0 (at .outputs) t) r (viewRows (at .row) (r .rows) t)) f b → length f ≡ length d
+  run-same p = put-length p (w .room)
+
+  module _ (k : r .kind ≡ Other) where
+    copied : Copied image r
+    copied = w .fits .other k
+
+    pub other-head : 6 ≤ r .first
+    other-head = copied .head
+
+    pub other-order : r .first - 6 ≤ r .past
+    other-order = omega (arith, copied .order)
+
+    pub other-past : r .past ≤ length image
+    other-past = copied .past
+
+    pub other-room : at .to + length (between image (r .first - 6) (r .past)) ≤ length d
+    other-room = rw (other-bytes image job ids outs r own k) (w .room)
+
+    pub other-put : {f : List ℕ} {b : ℕ} → Put d (at .to) (between image (r .first - 6) (r .past)) f b → Put d (at .to) (runBytes image job ids (viewRows 0 (at .outputs) t) r (viewRows (at .row) (r .rows) t)) f b
+    other-put p = put-same p (other-bytes image job ids outs r own k)
+
+    pub other-same : {f : List ℕ} {b : ℕ} → Put d (at .to) (between image (r .first - 6) (r .past)) f b → length f ≡ length d
+    other-same p = put-length p other-room
+
+  module _ (k : r .kind ≡ Source) where
+    pub source-few : r .rows ≤ 1024
+    source-few = w .fits .source k
+
+    pub source-there : RowsThere image job ids t (at .row) (r .rows)
+    source-there = w .there
+
+    pub source-room : at .to + length (sourceBytes image job ids r (viewRows (at .row) (r .rows) t)) ≤ length d
+    source-room = rw (source-bytes image job ids outs r own k) (w .room)
+
+    pub source-run : {f : List ℕ} {b : ℕ} → Put d (at .to) (sourceBytes image job ids r (viewRows (at .row) (r .rows) t)) f b → Put d (at .to) (runBytes image job ids (viewRows 0 (at .outputs) t) r (viewRows (at .row) (r .rows) t)) f b
+    source-run p = put-same p (source-bytes image job ids outs r own k)
+
+    pub source-run-same : {f : List ℕ} {b : ℕ} → Put d (at .to) (sourceBytes image job ids r (viewRows (at .row) (r .rows) t)) f b → length f ≡ length d
+    source-run-same p = put-length p source-room
+
+pub ruleset run-exits = (run-same, other-head, other-order, other-past, other-room, other-put, other-same, source-few, source-there, source-room, source-run, source-run-same)

@@ -1,0 +1,67 @@
+-- `commit_write::runs::put_run` meets its contract.
+-- Assumes nothing.
+use Rattle.commit_write.proofs.RunExits.{run-exits}
+use borrow.Author.Needs.{needs}
+use Rattle.commit_write.proofs.runs.put_run.Statement.{statement}
+use Rattle.commit_write.proofs.runs.put_run.Tie as tie
+
+enum-told : tie.Need-enum-told
+enum-told c = search (needs, run-exits)
+
+sub-put-part : tie.Need-sub-put-part
+sub-put-part c = search (needs, run-exits)
+
+put-part-requires : tie.Need-put-part-requires
+put-part-requires c κs = search (needs, run-exits)
+
+enum-told-2 : tie.Need-enum-told-2
+enum-told-2 c = search (needs, run-exits)
+
+put-source-run-requires : tie.Need-put-source-run-requires
+put-source-run-requires c κs = search (needs, run-exits)
+
+enum-told-3 : tie.Need-enum-told-3
+enum-told-3 c = search (needs, run-exits)
+
+put-destination-run-requires : tie.Need-put-destination-run-requires
+put-destination-run-requires c κs = search (needs, run-exits)
+
+same-length : tie.Need-same-length
+same-length c = search (needs, run-exits)
+
+returns : tie.Need-returns
+returns c = search (needs, run-exits)
+
+same-length-2 : tie.Need-same-length-2
+same-length-2 c = search (needs, run-exits)
+
+returns-2 : tie.Need-returns-2
+returns-2 c = search (needs, run-exits)
+
+same-length-3 : tie.Need-same-length-3
+same-length-3 c = search (needs, run-exits)
+
+same-length-4 : tie.Need-same-length-4
+same-length-4 c = search (needs, run-exits)
+
+returns-3 : tie.Need-returns-3
+returns-3 c = search (needs, run-exits)
+
+pub put-run-spec : {M : Type 1} → statement M
+put-run-spec =
+    tie.close
+    (tie.spec
+    enum-told
+    sub-put-part
+    put-part-requires
+    enum-told-2
+    put-source-run-requires
+    enum-told-3
+    put-destination-run-requires
+    same-length
+    returns
+    same-length-2
+    returns-2
+    same-length-3
+    same-length-4
+    returns-3)
