@@ -1,3 +1,4 @@
 pub mod HeldExits
 pub mod PieceExits
 pub mod ViewExits
+pub mod RunExits

@@ -1,0 +1,42 @@
+// The pieces of a run's views.
+use crate::held::view_held;
+use crate::views::plan_view;
+use commit_entries::Plan;
+use records::RunSpan;
+ghost use mathlib.Core.List.{map, flatMap};
+ghost use Prim.Native.Nat.{_≤_};
+ghost use lib.ListN.{length};
+ghost use Rattle.incremental_progress.specs.Gaps.{gapEntries, runGaps};
+ghost use Rattle.commit_durable.specs.Tables.{jobGaps, GapsHold};
+ghost use Rattle.commit_gaps.specs.Ordered.{GapsOrdered};
+ghost use Rattle.commit_entries.specs.Planned.{PlanReady, PlannedMore};
+ghost use Rattle.commit_plan.specs.Views.{gapBucket};
+ghost use Rattle.commit_plan.specs.Runs.{viewsAt, RunReady};
+
+// View starts ascend in a run, so the first gap that a view can reach never goes back.
+pub fn plan_run<'a>(
+    image: &'a [u8],
+    job: &'a [u8],
+    ids: &[u8],
+    gaps: &[usize],
+    m: usize,
+    rows: &mut [usize],
+    run: RunSpan,
+    p: Plan,
+) -> Plan
+    requires { ⌜ RunReady (now image) (run .first) (run .views) ⌝ ∗ ⌜ length (now job) ≤ 262144 ⌝ ∗ ⌜ GapsHold (now job) m (now gaps) ⌝ ∗ ⌜ GapsOrdered (now job) ⌝ ∗ ⌜ PlanReady (now ids) 274877906944 p ⌝ }
+    ensures { λ q. ⌜ PlannedMore (now (image .entry)) (now (job .entry)) (now (ids .entry)) (flatMap (gapEntries (jobGaps (now (job .entry)))) (viewsAt (now (image .entry)) (run .first) (run .views))) (map gapBucket (runGaps (jobGaps (now (job .entry))) (viewsAt (now (image .entry)) (run .first) (run .views)))) p (now (rows .entry)) q (now (rows .exit)) ⌝ }
+{
+    let mut seen = 0;
+    let mut at = run.first;
+    let mut from = 0;
+    let mut plan = p;
+    while seen < run.views {
+        let h = view_held(image, at, job, gaps, m, from);
+        plan = plan_view(image, job, ids, gaps, m, rows, h, plan);
+        from = h.gap;
+        at = h.past;
+        seen += 1;
+    }
+    plan
+}
