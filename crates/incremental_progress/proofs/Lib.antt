@@ -46,3 +46,4 @@ pub mod Enough
 pub mod SameSize
 pub mod CoveredAgain
 pub mod Repeated
+pub mod Plans
