@@ -47,3 +47,5 @@ pub mod SameSize
 pub mod CoveredAgain
 pub mod Repeated
 pub mod Plans
+pub mod PlacedSizes
+pub mod PlanSizes
