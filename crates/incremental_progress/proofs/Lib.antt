@@ -49,3 +49,4 @@ pub mod Repeated
 pub mod Plans
 pub mod PlacedSizes
 pub mod PlanSizes
+pub mod PlanBytes

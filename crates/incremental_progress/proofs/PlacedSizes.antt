@@ -16,7 +16,7 @@ unfoldable pub total : {A : Type 0} → (A → ℕ) → List A → ℕ
 total w [] = 0
 total w (a ∷ bs) = w a + total w bs
 
-pub total-append : {A : Type 0} (w : A → ℕ) (xs ys : List A) → total w (xs ++ ys) ≡ total w xs + total w ys
+total-append : {A : Type 0} (w : A → ℕ) (xs ys : List A) → total w (xs ++ ys) ≡ total w xs + total w ys
 unfolding total
 total-append w [] ys = omega arith
 total-append w (x ∷ xs) ys = omega (arith, total-append w xs ys)

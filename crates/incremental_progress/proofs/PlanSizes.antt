@@ -1,40 +1,27 @@
--- How many views each run of the new image has, and how many bytes they and the image take: as many as its entries, whatever is drawn.
+-- How many views each run of the new image has, and what they weigh: what its entries do, whatever is drawn.
 -- Assumes nothing.
-use Prim.Native.Nat.{ℕ, zero, suc, _+_, _*_, _≤_}
+use Prim.Native.Nat.{ℕ, zero, suc, _+_}
 use native.Mathlib.Omega.{arith}
 use mathlib.Core.Path.{_≡_, refl, sym, ap, _∙_}
 use mathlib.Core.Bool.{Bool, true, false, _||_}
 use mathlib.Core.Option.{Option, none, some}
-use mathlib.Core.List.{List, [], _∷_, _++_, map, flatMap, flatten, append-assoc}
+use mathlib.Core.List.{List, [], _∷_, _++_, map, flatMap, flatten}
 use lib.Dec.{eqb}
 use lib.ListN.{length, take, drop, length-append, length-map, take-append-drop, length-drop}
-use lib.Seq.{length-take-le, take-at, drop-at}
+use lib.Seq.{take-at, drop-at}
 use Rattle.base.specs.Pick.{pick}
-use Rattle.base.specs.Lists.{All, All-append, All-flatMap, All-mapped, All-of, map-append, map-alike}
-use Rattle.comparable_range.specs.Range.{Range}
-use Rattle.format.specs.Number.{writeNumber}
-use Rattle.format.proofs.Layouts.{number-length}
-use Rattle.records.specs.Form.{writeMany}
+use Rattle.base.specs.Lists.{All-of, map-append, map-alike}
 use Rattle.records.specs.Values.{View, Run, Image, Part, Job}
-use Rattle.records.specs.Layouts.{view, run, image}
 use Rattle.manifest.specs.Checks.{has}
-use Rattle.manifest.specs.Ranges.{effective}
 use Rattle.incremental_progress.specs.Intervals.{Interval, listed}
-use Rattle.incremental_progress.specs.Ids.{timeLength}
-use Rattle.incremental_progress.specs.Views.{sameRange}
 use Rattle.incremental_progress.specs.Parts.{durable, intervals, openKey}
-use Rattle.incremental_progress.specs.Draws.{Ten, Drawn, got, supply, draw, drawnView, fill, fillAll}
-use Rattle.incremental_progress.specs.Entries.{Entry, whole, cut, entryView, pieceEntry, outputEntries, partEntries}
-use Rattle.incremental_progress.specs.Gaps.{pieces, gapEntries, byGap, runGaps, placed, ofInterval}
-use Rattle.incremental_progress.specs.Patterns.{afterId}
-use Rattle.incremental_progress.specs.Plans.{byKind, jobGaps, runDraws, drawEntries, outputsOf, newViews, newRuns, newImage, viewBytes, entryBytes, viewCount, viewsLength, runsLength, imageLength, headBytes}
-use Rattle.incremental_progress.proofs.Marked.{Closed, AllClosed, none-left, one-more, ClosedImage, no-runs, one-run, FullParts}
-use Rattle.incremental_progress.proofs.Filling.{Full, parts-full, through}
-use Rattle.incremental_progress.proofs.Drawing.{IsTen, supply-tens, Of, draw-ten}
+use Rattle.incremental_progress.specs.Draws.{Ten, got, fillAll}
+use Rattle.incremental_progress.specs.Entries.{Entry, outputEntries, partEntries}
+use Rattle.incremental_progress.specs.Gaps.{gapEntries, byGap, runGaps, placed, ofInterval}
+use Rattle.incremental_progress.specs.Plans.{byKind, jobGaps, runDraws, drawEntries, outputsOf, newViews, newRuns, newImage, viewCount}
 use Rattle.incremental_progress.proofs.FilledViews.{filled-length}
-use Rattle.incremental_progress.proofs.Patterned.{view-bytes}
 use Rattle.incremental_progress.proofs.GapStarts.{gaps-length, run-gaps-bound}
-use Rattle.incremental_progress.proofs.PlacedSizes.{total, total-append, all-placed}
+use Rattle.incremental_progress.proofs.PlacedSizes.{total, all-placed}
 
 -- ---- the outputs, interval by interval
 pub outputs-count : (ps : List Part) (vs : List View) → length (outputsOf ps vs) ≡ length (intervals ps)
@@ -86,7 +73,7 @@ map-drop f zero l = refl
 map-drop f (suc n) [] = refl
 map-drop f (suc n) (x ∷ l) = map-drop f n l
 
-map-each : {A B : Type 0} (f g : A → B) → ((x : A) → f x ≡ g x) → (xs : List A) → map f xs ≡ map g xs
+pub map-each : {A B : Type 0} (f g : A → B) → ((x : A) → f x ≡ g x) → (xs : List A) → map f xs ≡ map g xs
 map-each f g e xs = map-alike f g xs (All-of e xs)
 
 total-map : {A : Type 0} (w : A → ℕ) (xs : List A) → total w xs ≡ total (λ n. n) (map w xs)
@@ -98,7 +85,7 @@ module _ (w : View → ℕ) (x : Entry → ℕ) where
   same-length : (vs : List View) (es : List Entry) → map w vs ≡ map x es → length vs ≡ length es
   same-length vs es e = sym (length-map vs w) ∙ ap length e ∙ length-map es x
 
-  same-total : (vs : List View) (es : List Entry) → map w vs ≡ map x es → total w vs ≡ total x es
+  pub same-total : (vs : List View) (es : List Entry) → map w vs ≡ map x es → total w vs ≡ total x es
   same-total vs es e = total-map w vs ∙ ap (total (λ n. n)) e ∙ sym (total-map x es)
 
   first-same : (vs : List View) (es fs : List Entry) → map w vs ≡ map x (es ++ fs) → map w (take (length es) vs) ≡ map x es
@@ -110,7 +97,7 @@ module _ (w : View → ℕ) (x : Entry → ℕ) where
       map-drop w (length es) vs ∙ ap (drop (length es)) (e ∙ map-append x es fs) ∙ drop-at (map x es) (map x fs) (length es) (length-map es x)
 
   -- what the views of a run weigh afterwards, beside outputs of a weight
-  abbrev weighs : Job → ℕ → Run → ℕ
+  abbrev pub weighs : Job → ℕ → Run → ℕ
   weighs j outputs r = byKind j r (total x (runDraws j r) + outputs) (total x (runDraws j r)) (total w (r .views))
 
   run-weighs : (j : Job) (outs : List (List View)) (r : Run) (mine : List View) → length outs ≡ length (intervals (j .parts)) → map w mine ≡ map x (runDraws j r)
@@ -141,7 +128,7 @@ module _ (w : View → ℕ) (x : Entry → ℕ) where
       rw (run-weighs j outs r (take (length (runDraws j r)) vs) h (first-same vs (runDraws j r) (flatMap (runDraws j) rs) e),
         runs-weigh j outs rs (drop (length (runDraws j r)) vs) h (rest-same vs (runDraws j r) (flatMap (runDraws j) rs) e))
 
-  image-weighs : (j : Job) (i : Image) (vs : List View) → map w vs ≡ map x (drawEntries j i)
+  pub image-weighs : (j : Job) (i : Image) (vs : List View) → map w vs ≡ map x (drawEntries j i)
       → map (λ (r : Run). total w (r .views)) (newImage j i vs) ≡ map (weighs j (total x (flatMap partEntries (j .parts)))) i
   unfolding newImage drawEntries
   image-weighs j i vs e =
@@ -179,63 +166,3 @@ commit-counts j i s vs t e =
     sym (map-each (λ r. total one (r .views)) _ (λ r. counts (r .views)) (newImage j i vs))
     ∙ image-weighs one one j i vs (ones vs (drawEntries j i) (filled-length (drawEntries j i) s vs t e))
     ∙ map-each _ (viewCount j) (run-counts j) i
-
--- ---- how many bytes
-abbrev viewSize : View → ℕ
-viewSize v = length (view .write v)
-
-abbrev entrySize : Entry → ℕ
-entrySize e = viewSize (entryView e)
-
-views-size : (vs : List View) → total viewSize vs ≡ length (viewBytes vs)
-unfolding total writeMany
-views-size [] = refl
-views-size (v ∷ vs) = rw length-append (omega (arith, views-size vs))
-
-entries-size : (es : List Entry) → total entrySize es ≡ length (entryBytes es)
-unfolding total writeMany
-entries-size [] = refl
-entries-size (e ∷ es) = rw length-append (omega (arith, entries-size es))
-
--- a new id has 16 bytes, as the old one
-drawn-size : (v : View) (r : Range) (ten : Ten) → Closed v → IsTen ten → viewSize (drawnView v r ten) ≡ entrySize (cut v r)
-drawn-size v r ten c h =
-    let old = entryView (cut v r) in
-    let new = drawnView v r ten in
-    let f : length (v .id .0) ≡ 16 = c .full in
-    let t = length-take-le timeLength (v .id .0) (omega arith) in
-    let l : length (new .id .0) ≡ 16 = length-append (take timeLength (v .id .0)) ten ∙ rw (t, h) in
-    let a = length-append (new .id .0) (afterId old) in
-    let b = length-append (old .id .0) (afterId old) in
-    rw (view-bytes new, view-bytes old) (omega arith)
-
--- as the entry, and ten bytes in each draw that is left
-fill-size : (e : Entry) (s : List Ten) (v : View) (t : List Ten) → Full e → All IsTen s → fill e s ≡ got v t → (viewSize v ≡ entrySize e) × All IsTen t
-fill-size (whole w) s v t c a e =
-    let f : w ≡ v = cc in
-    let g : s ≡ t = cc in
-    (rw f, rw (← g) a)
-fill-size (cut w r) s v t c a e =
-    let h = through (draw (w .id) s) (λ ten s. got (drawnView w r ten) s) v t e in
-    let k = h .second in
-    let f : drawnView w r (h .value) ≡ v = cc in
-    let g : h .rest ≡ t = cc in
-    let d : Of IsTen (got (h .value) (h .rest)) = rw (h .first) at (draw-ten (w .id) s a) in
-    (rw (← f) (drawn-size w r (h .value) c (d .0)), rw (← g) (d .1))
-
-filled-sizes : (es : List Entry) (s : List Ten) (vs : List View) (t : List Ten) → All Full es → All IsTen s → fillAll es s ≡ got vs t → map viewSize vs ≡ map entrySize es
-unfolding fillAll
-filled-sizes [] s vs t c a e = let f : [] ≡ vs = cc in rw (← f)
-filled-sizes (o ∷ es) s vs t c a e =
-    let h = through (fill o s) _ vs t e in
-    let k = through (fillAll es (h .rest)) _ vs t (h .second) in
-    let g = k .second in
-    let f : h .value ∷ k .value ≡ vs = cc in
-    let x = fill-size o s (h .value) (h .rest) (c .0) a (h .first) in
-    rw (← f, x .0, filled-sizes es (h .rest) (k .value) (k .rest) (c .1) (x .1) (k .first))
-
--- Entries take as many bytes with the ids that are drawn as with the old ones.
-pub filled-size : (es : List Entry) (s : List Ten) (vs : List View) (t : List Ten)
-    → All Full es → All IsTen s → fillAll es s ≡ got vs t → length (viewBytes vs) ≡ length (entryBytes es)
-filled-size es s vs t c a e =
-    sym (views-size vs) ∙ same-total viewSize entrySize vs es (filled-sizes es s vs t c a e) ∙ entries-size es

@@ -1,6 +1,5 @@
 -- A commit by gaps is one list of entries filled in one go, and then cut up.
 -- Assumes nothing.
-use Prim.Native.Nat.{ℕ}
 use mathlib.Core.Path.{_≡_, refl, sym, ap, _∙_}
 use mathlib.Core.Bool.{Bool, true, false, _||_}
 use mathlib.Core.List.{List, [], _∷_, _++_, flatMap}
@@ -8,7 +7,6 @@ use lib.Dec.{eqb}
 use lib.ListN.{length, take, drop}
 use lib.Seq.{take-at, drop-at}
 use Rattle.base.specs.Pick.{pick}
-use Rattle.comparable_range.specs.Range.{Range}
 use Rattle.records.specs.Values.{View, Run, Image, Part, Job}
 use Rattle.manifest.specs.Checks.{has}
 use Rattle.incremental_progress.specs.Parts.{durable}
