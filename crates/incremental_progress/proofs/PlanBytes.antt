@@ -3,8 +3,9 @@
 use Prim.Native.Nat.{ℕ, _+_, _*_}
 use native.Mathlib.Omega.{arith}
 use mathlib.Core.Path.{_≡_, refl, sym, ap, _∙_}
-use mathlib.Core.Bool.{Bool, true, false}
+use mathlib.Core.Bool.{Bool, true, false, _&&_}
 use mathlib.Core.List.{List, [], _∷_, _++_, map, flatMap, append-assoc}
+use lib.Dec.{leb}
 use lib.ListN.{length, take, length-append}
 use lib.Seq.{length-take-le}
 use Rattle.base.specs.Pick.{pick}
@@ -16,19 +17,21 @@ use Rattle.records.specs.Form.{writeMany}
 use Rattle.records.specs.Values.{View, Run, Image, Job}
 use Rattle.records.specs.Layouts.{view, run, image}
 use Rattle.manifest.specs.Ranges.{effective}
+use Rattle.manifest.specs.Checks.{all}
 use Rattle.incremental_progress.specs.Ids.{timeLength}
 use Rattle.incremental_progress.specs.Views.{sameRange}
 use Rattle.incremental_progress.specs.Draws.{Ten, got, supply, draw, drawnView, fill, fillAll}
 use Rattle.incremental_progress.specs.Entries.{Entry, whole, cut, entryView, pieceEntry, partEntries}
 use Rattle.incremental_progress.specs.Gaps.{pieces, gapEntries}
 use Rattle.incremental_progress.specs.Patterns.{afterId}
-use Rattle.incremental_progress.specs.Plans.{isSourceOf, jobGaps, runDraws, drawEntries, newImage, viewBytes, entryBytes, viewsLength, runsLength, imageLength, headBytes}
+use Rattle.incremental_progress.specs.Commit.{resultFits}
+use Rattle.incremental_progress.specs.Plans.{isSourceOf, jobGaps, runDraws, drawEntries, newImage, viewBytes, entryBytes, viewCount, viewsLength, runsLength, imageLength, headBytes}
 use Rattle.incremental_progress.proofs.Marked.{Closed, AllClosed, none-left, one-more, ClosedImage, no-runs, one-run, FullParts}
 use Rattle.incremental_progress.proofs.Filling.{Full, parts-full, through}
 use Rattle.incremental_progress.proofs.Drawing.{IsTen, supply-tens, Of, draw-ten}
 use Rattle.incremental_progress.proofs.Patterned.{view-bytes}
 use Rattle.incremental_progress.proofs.PlacedSizes.{total}
-use Rattle.incremental_progress.proofs.PlanSizes.{map-each, same-total, weighs, image-weighs}
+use Rattle.incremental_progress.proofs.PlanSizes.{map-each, same-total, weighs, image-weighs, commit-counts}
 
 -- ---- how many bytes
 abbrev viewSize : View → ℕ
@@ -180,3 +183,22 @@ pub commit-length : (j : Job) (i : Image) (ids : List ℕ) (vs : List View) (t :
 unfolding imageLength
 commit-length j i ids vs t c e =
     image-length (newImage j i vs) ∙ ap (λ n. 1 + n) (runs-length j (newImage j i vs) i (commit-sizes j i (supply ids) vs t c (supply-tens ids) e))
+
+-- ---- check 15, before any id is drawn
+all-counts : {A : Type 0} (f : A → ℕ) (xs : List A) → all (λ x. leb (f x) 1024) xs ≡ all (λ n. leb n 1024) (map f xs)
+unfolding all
+all-counts f [] = refl
+all-counts f (x ∷ xs) = rw (all-counts f xs)
+
+pub commit-fits : (j : Job) (i : Image) (ids : List ℕ) (vs : List View) (t : List Ten)
+    → All Full (drawEntries j i)
+    → fillAll (drawEntries j i) (supply ids) ≡ got vs t
+    → resultFits (newImage j i vs) ≡ (all (λ r. leb (viewCount j r) 1024) i && leb (imageLength j i) 65536)
+unfolding resultFits
+commit-fits j i ids vs t c e =
+    let views : all (λ r. leb (length (r .views)) 1024) (newImage j i vs) ≡ all (λ r. leb (viewCount j r) 1024) i =
+    all-counts (λ (r : Run). length (r .views)) (newImage j i vs)
+    ∙ ap (all (λ n. leb n 1024)) (commit-counts j i (supply ids) vs t e)
+    ∙ sym (all-counts (viewCount j) i)
+    in
+    rw (views, commit-length j i ids vs t c e)

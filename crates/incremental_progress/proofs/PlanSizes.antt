@@ -125,8 +125,10 @@ module _ (w : View → ℕ) (x : Entry → ℕ) where
   unfolding newRuns flatMap
   runs-weigh j outs [] vs h e = refl
   runs-weigh j outs (r ∷ rs) vs h e =
-      rw (run-weighs j outs r (take (length (runDraws j r)) vs) h (first-same vs (runDraws j r) (flatMap (runDraws j) rs) e),
-        runs-weigh j outs rs (drop (length (runDraws j r)) vs) h (rest-same vs (runDraws j r) (flatMap (runDraws j) rs) e))
+      rw (
+        run-weighs j outs r (take (length (runDraws j r)) vs) h (first-same vs (runDraws j r) (flatMap (runDraws j) rs) e),
+        runs-weigh j outs rs (drop (length (runDraws j r)) vs) h (rest-same vs (runDraws j r) (flatMap (runDraws j) rs) e),
+      )
 
   pub image-weighs : (j : Job) (i : Image) (vs : List View) → map w vs ≡ map x (drawEntries j i)
       → map (λ (r : Run). total w (r .views)) (newImage j i vs) ≡ map (weighs j (total x (flatMap partEntries (j .parts)))) i
