@@ -46,3 +46,7 @@ pub mod Enough
 pub mod SameSize
 pub mod CoveredAgain
 pub mod Repeated
+pub mod Plans
+pub mod PlacedSizes
+pub mod PlanSizes
+pub mod PlanBytes

@@ -7,6 +7,7 @@ pub mod Jobs
 pub mod Checks
 pub mod Draws
 pub mod Gaps
+pub mod Plans
 pub mod Commit
 pub mod Patterns
 pub mod Laws
