@@ -1,2 +1,3 @@
 pub mod OutputExits
 pub mod PartExits
+pub mod PartsExits

@@ -31,7 +31,7 @@ use Rattle.commit_outputs.specs.declared.output.Published.the-variants.{
 use Rattle.commit_outputs.proofs.OutputExits.{entries-are}
 
 -- an output has one entry at most
-one-most : (s : List ℕ) (h : PartSpan) (t : Table) → length (entriesIn s h t) ≤ 1
+pub one-most : (s : List ℕ) (h : PartSpan) (t : Table) → length (entriesIn s h t) ≤ 1
 one-most s h t =
     rw (entries-are (openIn s h) (intervalIn s (h .start) (h .end)) t) (go (publishedAs (openIn s h) (intervalIn s (h .start) (h .end)) t))
   where

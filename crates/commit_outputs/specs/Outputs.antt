@@ -1,8 +1,9 @@
 -- What of the job's outputs is published, and what it means that it is planned. The keys stand in the job s.
 use Prim.Native.Nat.{ℕ, suc, _+_, _*_, _≤_}
 use mathlib.Core.Path.{_≡_}
+use mathlib.Core.Bool.{true}
 use mathlib.Core.Option.{Option, none, some}
-use mathlib.Core.List.{List, [], _∷_, _++_, map}
+use mathlib.Core.List.{List, [], _∷_, _++_, map, flatMap}
 use lib.Dec.{T}
 use lib.ListN.{length, drop}
 use Rattle.base.specs.Pick.{pick}
@@ -18,8 +19,8 @@ use Rattle.incremental_progress.specs.Intervals.{Interval, toRange}
 use Rattle.incremental_progress.specs.Parts.{isKey, identity, durable}
 use Rattle.incremental_progress.specs.Entries.{Entry, whole, cut, outputEntries, partEntries}
 use Rattle.commit_rows.specs.declared.parts.PartSpan.{PartSpan}
-use Rattle.commit_durable.specs.Tables.{intervalIn, openIn}
-use Rattle.commit_entries.specs.Planned.{PlannedMore}
+use Rattle.commit_durable.specs.Tables.{jobOf, intervalIn, openIn}
+use Rattle.commit_entries.specs.Planned.{PlanReady, PlannedMore}
 use Rattle.commit_entries.specs.declared.Plan.{Plan}
 use Rattle.commit_outputs.specs.declared.output.Published.{Published}
 use Rattle.commit_outputs.specs.declared.output.Published.the-variants.{Left, Whole, Cut}
@@ -75,3 +76,11 @@ afterInterval (some iv) i = suc i
 unfoldable pub outputBuckets : ℕ → List Part → List ℕ
 outputBuckets i [] = []
 outputBuckets i (p ∷ ps) = bucketed (outputBucket i) (partEntries p) ++ outputBuckets (afterInterval (durable p) i) ps
+
+-- all of the job's outputs, and nothing before them
+abbrev pub noPlan : Plan
+noPlan = record { rows = 0; bytes = 0; cuts = 0; drawn = 0; enough = true }
+
+pub record PlannedOutputs (job ids d : List ℕ) (q : Plan) (t : List ℕ) : Type 0 where
+  pub planned : (image : List ℕ) → PlannedMore image job ids (flatMap partEntries (jobOf job .parts)) (outputBuckets 0 (jobOf job .parts)) noPlan d q t
+  pub ready : PlanReady ids 65536 q

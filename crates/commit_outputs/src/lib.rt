@@ -2,4 +2,4 @@
 mod output;
 mod parts;
 
-pub use parts::plan_part;
+pub use parts::plan_outputs;
