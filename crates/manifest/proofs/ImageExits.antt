@@ -344,18 +344,6 @@ module _ {s : List ℕ} {from n : ℕ} {d t : List ℕ} {k at fault : ℕ} (p : 
 
 pub ruleset runs-exits = (runs-begin, runs-at, runs-same, ids-room, runs-end, row-room, row-same, runs-stop, runs-onward)
 
--- ---- runs_few and runs_many
-pub few-room : (n : ℕ) (d : List ℕ) → n ≤ 8 → length d ≡ 32 → n * 4 ≤ length d
-few-room n d h e = omega arith
-
-pub many-room : (n : ℕ) (d : List ℕ) → n ≤ 64 → length d ≡ 256 → n * 4 ≤ length d
-many-room n d h e = omega arith
-
-pub runs-found : {s : List ℕ} {g : Got (List Run)} {d t : List ℕ} {r : Judged} → RunsIndexed s g d t r → JudgedFound s (faults imageChecks g) r
-runs-found x = x .found
-
-pub ruleset table-exits = (few-room, many-room, runs-found)
-
 -- ---- image_front
 counted-within : (most : ℕ) (t : Bool) (w n : ℕ) (l r : List ℕ) → t ≡ leb w most → got n r ≡ taken (check 3 t (answer w)) l → n ≤ most
 counted-within most true w n l r e h = let z : n ≡ w = cc in rw z (leb-true w most (sym e))

@@ -108,4 +108,5 @@ module _ {s : List ℕ} {n : ℕ} {t : List ℕ} (p : IndexHold s n t) where
       e ∙ ap (has id) z
 
 pub ruleset indexed-exits = (run-room, run-found)
+
 pub ruleset has-exits = (ids-room, run-there)
