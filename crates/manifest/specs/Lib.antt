@@ -2,5 +2,6 @@ pub mod Ranges
 pub mod Checks
 pub mod Faults
 pub mod Spans
+pub mod Index
 pub mod Laws
 pub mod Examples
