@@ -1,0 +1,4 @@
+pub mod Chains
+pub mod IdExits
+pub mod Sizes
+pub mod OutputExits
