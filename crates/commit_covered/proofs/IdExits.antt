@@ -1,21 +1,20 @@
 -- The exits of `entry`, `same`, `keep` and `is_kept`.
 -- Assumes nothing.
-use Prim.Native.Nat.{ℕ, suc, _+_, _-_, _*_, _%_, _^_, _≤_, _<_}
+use Prim.Native.Nat.{ℕ, _+_, _-_, _*_, _%_, _^_, _≤_, _<_}
 use native.Mathlib.Omega.{arith}
 use native.Mathlib.Nat.{mod-lt}
-use mathlib.Core.Path.{_≡_, refl, sym, ap, _∙_}
+use mathlib.Core.Path.{_≡_, refl, sym, _∙_}
 use mathlib.Core.Bool.{Bool, true, false, _||_}
-use mathlib.Core.List.{List, [], _∷_}
-use lib.ListN.{length, getD, take, drop, set, length-drop, length-set}
-use lib.Seq.{length-take-le}
+use mathlib.Core.List.{List, [], _∷_, map}
+use lib.ListN.{length, getD, take, drop, set, length-set}
+use borrow.Author.Needs.{length-unmapped}
 use mir.Val.{Fits}
 use mir.Syntax.{w64}
-use Rattle.key.specs.Order.{cmpKey, isEqual}
 use Rattle.key.specs.Word.{WordAt}
 use Rattle.records.specs.Values.{Table}
 use Rattle.records.specs.declared.ids.TableId.{TableId}
 use Rattle.incremental_progress.specs.Ids.{sameTableId}
-use Rattle.commit_covered.specs.Kept.{idAmong, entryOf, newest, latest, IdsKept}
+use Rattle.commit_covered.specs.Kept.{idAmong, entryOf, newest, IdsKept}
 use Rattle.commit_covered.proofs.Chains.{hasId, among-newest, length-newest, From, from-latest, First, first-of}
 
 -- ---- entry
@@ -26,7 +25,14 @@ entry-is n x a b = rw (a .value, b .value)
 pub entry-small : (n a : ℕ) → 0 < n → a % n < n
 entry-small n a h = mod-lt a h
 
-pub ruleset entry-exits = (entry-is, entry-small)
+-- an id has 16 bytes
+pub head-room : (l : List ℕ) → length (map (λ (v : ℕ). v) l) ≡ 16 → 8 ≤ length l
+head-room l e = omega (arith, length-unmapped ℕ l 16 e)
+
+pub tail-room : (l : List ℕ) → length (map (λ (v : ℕ). v) l) ≡ 16 → 16 ≤ length l
+tail-room l e = omega (arith, length-unmapped ℕ l 16 e)
+
+pub ruleset entry-exits = (entry-is, entry-small, head-room, tail-room)
 
 -- ---- keep
 module _ (chain : List ℕ) (k : ℕ) (h : k * 2 + 2 ≤ length chain) where
@@ -50,10 +56,6 @@ module _ (chain slots : List ℕ) (k place : ℕ) (x : TableId) {e : ℕ} (f : e
   put-slot = rw f
 
 pub ruleset keep-exits = (put-room, put-next-room, put-fits, put-next-fits, put-row, put-slot)
-
--- ---- an id of the job
-pub id-long : (s : List ℕ) (p : ℕ) (x : TableId) → x .0 ≡ take 16 (drop p s) → p + 16 ≤ length s → length (x .0) ≡ 16
-id-long s p x e h = rw e (length-take-le 16 (drop p s) (rw length-drop (omega arith)))
 
 -- ---- is_kept
 pub record Looking (s chain : List ℕ) (n : ℕ) (x : TableId) (ts : List Table) (left : ℕ) : Type 0 where

@@ -2,3 +2,5 @@ pub mod Chains
 pub mod IdExits
 pub mod Sizes
 pub mod OutputExits
+pub mod ViewExits
+pub mod ByGaps

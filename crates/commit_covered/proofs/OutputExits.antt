@@ -4,20 +4,17 @@ use Prim.Native.Nat.{ℕ, zero, suc, _+_, _-_, _*_, _^_, _≤_, _<_}
 use native.Mathlib.Omega.{arith}
 use native.Mathlib.Numerals.{add-one}
 use mathlib.Core.Path.{_≡_, refl, sym, ap, _∙_}
-use mathlib.Core.Logic.{inl, inr}
 use mathlib.Core.Bool.{Bool, true, false}
 use mathlib.Core.List.{List, [], _∷_, _++_, flatMap, append-assoc, append-nil}
 use lib.Dec.{T, eqb}
-use lib.ListN.{length, getD, take, drop, set, length-set, length-append, length-drop, take-append-drop, drop-of-length-le}
+use lib.ListN.{length, getD, take, drop, set, length-set, length-append, length-drop, take-append-drop}
 use lib.Seq.{length-take-le, drop-drop, drop-at, drop-cons, take-all, getD-set-same, getD-set-other}
 use borrow.Author.Tests.{eqb-true, eqb-false}
 use mir.Val.{Fits}
 use mir.Syntax.{w64}
 use Rattle.base.specs.Lists.{flatMap-append}
 use Rattle.base.specs.Rows.{rowAt, hold-at}
-use Rattle.format.specs.Got.{Got, got}
-use Rattle.records.specs.Form.{readMany}
-use Rattle.records.specs.Found.{isGot, valuesOf}
+use Rattle.records.specs.Found.{isGot}
 use Rattle.records.specs.Values.{Table, Part}
 use Rattle.records.specs.Layouts.{table}
 use Rattle.records.specs.Spans.{tableIn}
@@ -33,7 +30,6 @@ use Rattle.commit_rows.specs.declared.parts.PartSpan.{PartSpan}
 use Rattle.commit_durable.specs.Tables.{jobOf, PartHeld, PartIs, PartsHold}
 use Rattle.commit_covered.specs.Kept.{entryOf, newest, latest, none-kept, IdsKept, Room, Cleared, OutputsHere, SomeKept, MoreKept, AllKept}
 use Rattle.commit_covered.proofs.Chains.{rowPut, kept-more}
-use Rattle.commit_covered.proofs.IdExits.{id-long}
 use Rattle.commit_covered.proofs.Sizes.{few-outputs}
 
 -- ---- clear
@@ -144,9 +140,6 @@ module _ {s : List ℕ} {first m k : ℕ} {chain₀ slots₀ chain slots : List 
       keeping-inside = f .inside .id
 
       module _ {x : TableId} (e : x .0 ≡ take 16 (drop (t .id) s)) where
-        pub keeping-long : length (x .0) ≡ 16
-        keeping-long = id-long s (t .id) x e keeping-inside
-
         more-kept : IdsKept s (take (k + seen + 1) (outputs (jobOf s .parts))) (rowPut chain slots (k + seen) (entryOf (length slots) x) (t .id)) (set slots (entryOf (length slots) x) (k + seen + 1))
         more-kept =
             let n : length (take (k + seen) (outputs (jobOf s .parts))) ≡ k + seen = length-take-le (k + seen) (outputs (jobOf s .parts)) (omega (arith, below-all)) in
@@ -172,7 +165,7 @@ module _ {s : List ℕ} {first m k : ℕ} {chain₀ slots₀ chain slots : List 
               slots-length = sl ∙ p .slots-length;
             }
 
-pub ruleset part-exits = (keeping, keeping-all, keeping-chain, keeping-slots, keeping-here, keeping-fits, keeping-room, keeping-slot, keeping-inside, keeping-long, keeping-on)
+pub ruleset part-exits = (keeping, keeping-all, keeping-chain, keeping-slots, keeping-here, keeping-fits, keeping-room, keeping-slot, keeping-inside, keeping-on)
 
 -- ---- keep_outputs
 pub none-kept-yet : {slots₀ slots : List ℕ} (s chain : List ℕ) → Cleared slots₀ slots → 0 < length slots₀ → SomeKept s 0 chain slots

@@ -2,18 +2,16 @@
 -- Assumes nothing.
 use Prim.Native.Nat.{ℕ, zero, suc, _+_, _-_, _*_, _≤_}
 use native.Mathlib.Omega.{arith}
-use mathlib.Core.Path.{_≡_, refl, sym, ap, _∙_}
+use mathlib.Core.Path.{_≡_, refl, sym, ap}
 use mathlib.Core.Bool.{Bool, true, false}
-use mathlib.Core.Option.{Option}
-use mathlib.Core.List.{List, [], _∷_, _++_, flatMap}
+use mathlib.Core.List.{List, [], _∷_, flatMap}
 use lib.Dec.{leb}
-use lib.ListN.{length, take, drop, length-drop, length-append}
+use lib.ListN.{length, drop, length-drop, length-append}
 use borrow.Author.Tests.{leb-true}
 use Rattle.base.specs.Pick.{pick}
 use Rattle.base.specs.Outcome.{Outcome, answer}
 use Rattle.base.specs.Outcome as outcome
-use Rattle.key.specs.Order.{Key}
-use Rattle.comparable_range.specs.Range.{Bound, included, excluded, Range}
+use Rattle.comparable_range.specs.Range.{included, excluded}
 use Rattle.comparable_range.specs.declared.Kind.{Kind}
 use Rattle.comparable_range.specs.declared.Kind.the-variants.{Unbounded, Included, Excluded}
 use Rattle.format.specs.Got.{Got, got, stop, andThen}
@@ -23,9 +21,9 @@ use Rattle.format.specs.Range.{readBound, readRange, headed, headOf}
 use Rattle.format.specs.declared.range.Head.{Head}
 use Rattle.format.specs.declared.range.Head.the-variants.{Kinds, Stop as HeadStop}
 use Rattle.format.proofs.Layouts.{came}
-use Rattle.records.specs.Form.{Form, number, bytes, key, range, taken, packed, seq, named, optional, readIf, readMany, many}
+use Rattle.records.specs.Form.{Form, number, bytes, key, taken, seq, readIf, readMany, many}
 use Rattle.records.specs.Values.{Table, Part, Job}
-use Rattle.records.specs.Layouts.{flagOf, flag, countOf, upTo, outputsOf, outputCount, counted, tableOf, tableFields, table, partOf, partFields, part, job}
+use Rattle.records.specs.Layouts.{flagOf, flag, countOf, upTo, outputsOf, outputCount, counted, tableOf, table, partOf, part, job}
 use Rattle.incremental_progress.specs.Jobs.{outputs}
 use Rattle.commit_durable.specs.Tables.{jobGot, jobOf}
 

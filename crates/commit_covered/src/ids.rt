@@ -11,7 +11,7 @@ ghost use Rattle.commit_covered.specs.Kept.{entryOf, idAmong, IdsKept};
 
 // The entry of an id, of n. By primes near a table's length, so that ids spread if either half is the same in all of them.
 fn entry(id: TableId, n: usize) -> usize
-    requires { ⌜ length (id .0) ≡ 16 ⌝ ∗ ⌜ 0 < n ⌝ }
+    requires { ⌜ 0 < n ⌝ }
     ensures { λ r. ⌜ (r ≡ entryOf n id) × (r < n) ⌝ }
 {
     let bytes = id.0;
@@ -30,7 +30,7 @@ fn same(a: TableId, b: TableId) -> bool
 
 // Keeps the id of output k, which stands at a place of the job.
 pub fn keep(id: TableId, place: usize, k: usize, chain: &mut [usize], slots: &mut [usize])
-    requires { ⌜ length (id .0) ≡ 16 ⌝ ∗ ⌜ k * 2 + 2 ≤ length (now chain) ⌝ ∗ ⌜ 0 < length (now slots) ⌝ }
+    requires { ⌜ k * 2 + 2 ≤ length (now chain) ⌝ ∗ ⌜ 0 < length (now slots) ⌝ }
     ensures { λ _. ⌜ now (chain .exit) ≡ set (set (now (chain .entry)) (k * 2) place) (k * 2 + 1) (getD (now (slots .entry)) (entryOf (length (now (slots .entry))) id) 0) ⌝ }
     ensures { λ _. ⌜ now (slots .exit) ≡ set (now (slots .entry)) (entryOf (length (now (slots .entry))) id) (k + 1) ⌝ }
 {
@@ -44,7 +44,7 @@ pub fn keep(id: TableId, place: usize, k: usize, chain: &mut [usize], slots: &mu
 
 // Whether an id is one of the kept.
 pub fn is_kept(job: &[u8], chain: &[usize], slots: &[usize], id: TableId) -> bool
-    requires { ⌜ IdsKept (now job) (outputs (jobOf (now job) .parts)) (now chain) (now slots) ⌝ ∗ ⌜ length (id .0) ≡ 16 ⌝ }
+    requires { ⌜ IdsKept (now job) (outputs (jobOf (now job) .parts)) (now chain) (now slots) ⌝ }
     ensures { λ r. ⌜ r ≡ idAmong id (outputs (jobOf (now (job .entry)) .parts)) ⌝ }
 {
     let e = entry(id, slots.len());

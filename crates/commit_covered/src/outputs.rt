@@ -1,10 +1,9 @@
 // Keeping the ids of all outputs of a job.
 use crate::ids::keep;
-ghost use mathlib.Core.Path.{_≡_};
 ghost use Prim.Native.Nat.{_+_, _<_};
 ghost use lib.ListN.{length};
 ghost use Rattle.incremental_progress.specs.Jobs.{outputs};
-ghost use Rattle.commit_durable.specs.Tables.{jobOf, PartsHold};
+ghost use Rattle.commit_durable.specs.Tables.{PartsHold};
 ghost use Rattle.commit_covered.specs.Kept.{Room, Cleared, OutputsHere, SomeKept, MoreKept, AllKept};
 
 fn clear(slots: &mut [usize])
