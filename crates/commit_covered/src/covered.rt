@@ -42,7 +42,8 @@ fn view_in_gaps<'a>(
     m: usize,
     from: usize,
 ) -> InGaps
-    requires { ⌜ ViewInside (now image) v ⌝ ∗ ⌜ tablePasses (viewIn (now image) v) ≡ true ⌝ ∗ ⌜ GapsHold (now job) m (now gaps) ⌝ ∗ ⌜ GapsOrdered (now job) ⌝ ∗ ⌜ Reached (effective (viewIn (now image) v) .start) (now job) m from ⌝ }
+    requires { ⌜ ViewInside (now image) v ⌝ ∗ ⌜ tablePasses (viewIn (now image) v) ≡ true ⌝ ∗ ⌜ Reached (effective (viewIn (now image) v) .start) (now job) m from ⌝ }
+    requires { ⌜ GapsHold (now job) m (now gaps) ⌝ ∗ ⌜ GapsOrdered (now job) ⌝ }
     ensures { λ r. ⌜ InGapsIs (now (job .entry)) m (viewIn (now (image .entry)) v) r ⌝ }
 {
     let shown = manifest::effective(image, v);

@@ -23,7 +23,7 @@ is-output-requires c κs = search (needs, view-exits)
 
 view-in-gaps-requires : tie.Need-view-in-gaps-requires Inv-loop μ-loop
 view-in-gaps-requires c κs =
-    (search (needs, seen-inside), (search (needs, seen-passes), (search needs, (search needs, search (needs, seen-reached)))))
+    (search (needs, seen-inside), (search (needs, seen-passes), (search (needs, seen-reached), (search needs, search needs))))
 
 enum-told : tie.Need-enum-told Inv-loop μ-loop
 enum-told c = search (needs, view-exits)
