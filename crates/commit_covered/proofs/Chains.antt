@@ -53,13 +53,13 @@ length-newest is (t ∷ ts) = length-newest (t .id ∷ is) ts ∙ omega arith
 pub among-newest : (x : TableId) (is : List TableId) (ts : List Table) → hasId x (newest is ts) ≡ (idAmong x ts || hasId x is)
 unfolding newest idAmong hasId
 among-newest x is [] = refl
-among-newest x is (t ∷ ts) = among-newest x (t .id ∷ is) ts ∙ swapped′ (idAmong x ts) (sameTableId x (t .id)) (hasId x is)
+among-newest x is (t ∷ ts) = among-newest x (t .id ∷ is) ts ∙ crossed (idAmong x ts) (sameTableId x (t .id)) (hasId x is)
   where
-    swapped′ : (a b c : Bool) → (a || (b || c)) ≡ ((b || a) || c)
-    swapped′ true true c = refl
-    swapped′ true false c = refl
-    swapped′ false true c = refl
-    swapped′ false false c = refl
+    crossed : (a b c : Bool) → (a || (b || c)) ≡ ((b || a) || c)
+    crossed true true c = refl
+    crossed true false c = refl
+    crossed false true c = refl
+    crossed false false c = refl
 
 -- ---- one id more
 chained-same : {s chain chain′ : List ℕ} {n : ℕ} {is : List TableId} → ((i : ℕ) → i < length is * 2 → getD chain′ i 0 ≡ getD chain i 0) → Chained s chain n is → Chained s chain′ n is

@@ -1,13 +1,13 @@
 -- The exits of `clear`, `keep_part` and `keep_outputs`.
 -- Assumes nothing.
-use Prim.Native.Nat.{ℕ, zero, suc, _+_, _-_, _*_, _^_, _≤_, _<_}
+use Prim.Native.Nat.{ℕ, zero, _+_, _-_, _*_, _^_, _≤_, _<_}
 use native.Mathlib.Omega.{arith}
 use native.Mathlib.Numerals.{add-one}
 use mathlib.Core.Path.{_≡_, refl, sym, ap, _∙_}
 use mathlib.Core.Bool.{Bool, true, false}
 use mathlib.Core.List.{List, [], _∷_, _++_, flatMap, append-assoc, append-nil}
 use lib.Dec.{T, eqb}
-use lib.ListN.{length, getD, take, drop, set, length-set, length-append, length-drop, take-append-drop}
+use lib.ListN.{length, getD, take, drop, set, length-set, length-append, take-append-drop}
 use lib.Seq.{length-take-le, drop-drop, drop-at, drop-cons, take-all, getD-set-same, getD-set-other}
 use borrow.Author.Tests.{eqb-true, eqb-false}
 use mir.Val.{Fits}
@@ -28,6 +28,7 @@ use Rattle.incremental_progress.specs.Gaps.{void}
 use Rattle.commit_rows.specs.Numbers.{partOf}
 use Rattle.commit_rows.specs.declared.parts.PartSpan.{PartSpan}
 use Rattle.commit_durable.specs.Tables.{jobOf, PartHeld, PartIs, PartsHold}
+use Rattle.commit_gaps.proofs.Places.{drop-inside, take-more}
 use Rattle.commit_covered.specs.Kept.{entryOf, newest, latest, none-kept, IdsKept, Room, Cleared, OutputsHere, SomeKept, MoreKept, AllKept}
 use Rattle.commit_covered.proofs.Chains.{rowPut, kept-more}
 use Rattle.commit_covered.proofs.Sizes.{few-outputs}
@@ -59,17 +60,6 @@ pub clear-less : (slots : List ℕ) (i : ℕ) → i < length slots → length (s
 clear-less slots i h = rw length-set (omega arith)
 
 pub ruleset clear-exits = (clear-begin, clear-less, clear-turn, clear-length, clear-end)
-
--- ---- lists
--- the front of a list, one more
-take-more : {A : Type 0} (n : ℕ) (xs : List A) {x : A} {more : List A} → drop n xs ≡ x ∷ more → take (n + 1) xs ≡ take n xs ++ (x ∷ [])
-take-more zero [] {x} {more} e = absurd (let z : 0 ≡ length (x ∷ more) = ap length e in omega (arith, z))
-take-more zero (y ∷ xs) {x} e = let z : y ≡ x = cc in rw z
-take-more (suc n) [] {x} {more} e = absurd (let z : 0 ≡ length (x ∷ more) = ap length e in omega (arith, z))
-take-more (suc n) (y ∷ xs) e = let z : suc n + 1 ≡ suc (n + 1) = omega arith in rw (z, take-more n xs e)
-
-drop-inside : {A : Type 0} (n : ℕ) (xs : List A) {x : A} {more : List A} → drop n xs ≡ x ∷ more → n < length xs
-drop-inside n xs {x} {more} e = let z : length (drop n xs) ≡ length (x ∷ more) = ap length e in omega (arith, z, length-drop n xs)
 
 -- ---- keep_part
 entry-alike : (n : ℕ) (x y : TableId) → x .0 ≡ y .0 → entryOf n x ≡ entryOf n y

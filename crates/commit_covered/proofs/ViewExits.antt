@@ -1,6 +1,6 @@
 -- The exits of `views_covered`.
 -- Assumes nothing.
-use Prim.Native.Nat.{ℕ, zero, suc, _+_, _≤_, _<_}
+use Prim.Native.Nat.{ℕ, _+_, _≤_, _<_}
 use native.Mathlib.Omega.{arith}
 use mathlib.Core.Path.{_≡_, refl, sym, ap, _∙_}
 use mathlib.Core.Bool.{Bool, true, false, not, _&&_, _||_}
@@ -8,7 +8,7 @@ use mathlib.Core.List.{List, [], _∷_, _++_}
 use lib.Dec.{T}
 use lib.ListN.{length, take, drop, drop-of-length-le}
 use lib.Seq.{drop-drop, drop-at}
-use Rattle.base.specs.Lists.{All, All-map, All-of, Pairwise}
+use Rattle.base.specs.Lists.{All, All-map, All-of}
 use Rattle.comparable_range.specs.Range.{Bound, Range}
 use Rattle.comparable_range.specs.Cut.{_≼_}
 use Rattle.format.specs.Range.{boundIn, rangeIn, BoundInside}
@@ -39,25 +39,13 @@ use Rattle.commit_gaps.specs.Found.{Inside, Reached, NoneFrom, PieceAt, NextFou
 use Rattle.commit_gaps.specs.declared.piece.Piece.{Piece}
 use Rattle.commit_gaps.specs.declared.next.NextPiece.{NextPiece}
 use Rattle.commit_gaps.specs.declared.next.NextPiece.the-variants.{None, At}
+use Rattle.commit_gaps.proofs.Places.{all-at, pairs-at}
 use Rattle.commit_gaps.proofs.Passing.{behind-later}
 use Rattle.commit_gaps.proofs.Uses.{reached-pieces}
 use Rattle.commit_covered.specs.declared.covered.InGaps.{InGaps}
 use Rattle.commit_covered.specs.declared.covered.InGaps.the-variants.{Something, Nothing}
 use Rattle.commit_covered.specs.Covered.{InGapsIs, left, none-left, ViewsHere, coveredIn, viewsCovered}
 use Rattle.commit_covered.specs.Kept.{idAmong}
-
--- ---- what stands at a place of a list
-all-at : {A : Type 0} (P : A → Type 0) (n : ℕ) (xs : List A) {x : A} {more : List A} → All P xs → drop n xs ≡ x ∷ more → P x
-all-at P zero [] {x} {more} a e = absurd (let z : 0 ≡ length (x ∷ more) = ap length e in omega (arith, z))
-all-at P zero (y ∷ xs) {x} a e = let z : y ≡ x = cc in rw z at (a .0)
-all-at P (suc n) [] {x} {more} a e = absurd (let z : 0 ≡ length (x ∷ more) = ap length e in omega (arith, z))
-all-at P (suc n) (y ∷ xs) a e = all-at P n xs (a .1) e
-
-pairs-at : {A : Type 0} (R : A → A → Type 0) (n : ℕ) (xs : List A) {x : A} {more : List A} → Pairwise R xs → drop n xs ≡ x ∷ more → All (R x) more
-pairs-at R zero [] {x} {more} p e = absurd (let z : 0 ≡ length (x ∷ more) = ap length e in omega (arith, z))
-pairs-at R zero (y ∷ xs) {x} {more} p e = let z : y ≡ x = cc in let w : xs ≡ more = cc in rw (z, w) at (p .0)
-pairs-at R (suc n) [] {x} {more} p e = absurd (let z : 0 ≡ length (x ∷ more) = ap length e in omega (arith, z))
-pairs-at R (suc n) (y ∷ xs) p e = pairs-at R n xs (p .1) e
 
 -- ---- one view
 among-id : (x : TableId) (t : Table) → x .0 ≡ t .id .0 → (ts : List Table) → idAmong x ts ≡ among t ts
