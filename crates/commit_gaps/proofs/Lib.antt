@@ -1,3 +1,4 @@
+pub mod Places
 pub mod Passing
 pub mod InOrder
 pub mod MeetExits

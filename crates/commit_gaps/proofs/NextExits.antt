@@ -1,14 +1,14 @@
 -- The exits of `first_gap` and of `next_piece`.
 -- Assumes nothing.
-use Prim.Native.Nat.{ℕ, zero, suc, _+_, _≤_, _<_}
+use Prim.Native.Nat.{ℕ, _+_, _≤_, _<_}
 use native.Mathlib.Omega.{arith}
 use native.Mathlib.Numerals.{add-one}
 use mathlib.Core.Path.{_≡_, refl, sym, ap, _∙_}
 use mathlib.Core.Bool.{Bool, true, false, true≢false}
 use mathlib.Core.Option.{none, some}
-use mathlib.Core.List.{List, [], _∷_, _++_, flatMap}
-use lib.ListN.{length, take, drop, drop-of-length-le}
-use Rattle.base.specs.Lists.{All, All-append, Pairwise}
+use mathlib.Core.List.{List, [], _∷_, flatMap}
+use lib.ListN.{take, drop, drop-of-length-le}
+use Rattle.base.specs.Lists.{All-append}
 use Rattle.comparable_range.specs.Range.{Bound, Range, nonEmpty, intersect}
 use Rattle.comparable_range.specs.Cut.{_≼_, startCut, endCut}
 use Rattle.comparable_range.proofs.Keyless.{failing-holds-none}
@@ -23,21 +23,8 @@ use Rattle.commit_gaps.specs.declared.piece.Meeting.{Meeting}
 use Rattle.commit_gaps.specs.declared.piece.Meeting.the-variants.{Apart, Past, Last, More}
 use Rattle.commit_gaps.specs.declared.next.NextPiece.the-variants.{None, At}
 use Rattle.commit_gaps.specs.Found.{Inside, Shared, MeetingIs, nothing, ended, ends, goes-on, Reached, NextFound, no-piece, a-piece}
+use Rattle.commit_gaps.proofs.Places.{take-more, pairs-at}
 use Rattle.commit_gaps.proofs.Passing.{all-clear, none-met, past-none, past-clear, ended-clear}
-
--- the front of a list, one more
-take-more : {A : Type 0} (n : ℕ) (xs : List A) {x : A} {more : List A} → drop n xs ≡ x ∷ more → take (n + 1) xs ≡ take n xs ++ (x ∷ [])
-take-more zero [] {x} {more} e = absurd (let z : 0 ≡ length (x ∷ more) = ap length e in omega (arith, z))
-take-more zero (y ∷ xs) {x} e = let z : y ≡ x = cc in rw z
-take-more (suc n) [] {x} {more} e = absurd (let z : 0 ≡ length (x ∷ more) = ap length e in omega (arith, z))
-take-more (suc n) (y ∷ xs) e = let z : suc n + 1 ≡ suc (n + 1) = omega arith in rw (z, take-more n xs e)
-
--- what a gap is to those after it
-ahead-of : (n : ℕ) (gs : List Range) {g : Range} {more : List Range} → Pairwise Ahead gs → drop n gs ≡ g ∷ more → All (Ahead g) more
-ahead-of zero [] {g} {more} p e = absurd (let z : 0 ≡ length (g ∷ more) = ap length e in omega (arith, z))
-ahead-of zero (h ∷ hs) {g} {more} p e = let y : h ≡ g = cc in let z : hs ≡ more = cc in rw (y, z) at (p .0)
-ahead-of (suc n) [] {g} {more} p e = absurd (let z : 0 ≡ length (g ∷ more) = ap length e in omega (arith, z))
-ahead-of (suc n) (h ∷ hs) p e = ahead-of n hs (p .1) e
 
 -- ---- first_gap
 module _ {b : Bound} {s : List ℕ} {m g : ℕ} where
@@ -118,7 +105,7 @@ module _ {s : List ℕ} {r : Range} {m from g : ℕ} (p : Seeking s r m from g) 
     sought-past k q e =
         let l = met-past (rw e at w) in
         let n = none-here g r (f .is) (past-none r (rangeIn s (b .start) (b .end)) l) in
-        let c = past-clear r (rangeIn s (b .start) (b .end)) (drop (g + 1) (jobGaps s)) k l (ahead-of g (jobGaps s) (q .ordered) (f .is)) in
+        let c = past-clear r (rangeIn s (b .start) (b .end)) (drop (g + 1) (jobGaps s)) k l (pairs-at Ahead g (jobGaps s) (q .ordered) (f .is)) in
         no-piece (record {
           none-left = p .same ∙ n .0 ∙ all-clear r (drop (g + 1) (jobGaps s)) c;
           none-met = p .same-met ∙ n .1 ∙ none-met r (g + 1) (drop (g + 1) (jobGaps s)) c;
@@ -144,7 +131,7 @@ module _ {s : List ℕ} {r : Range} {m from g : ℕ} (p : Seeking s r m from g) 
         let l = met-last (rw e at w) in
         let y = l .0 in
         let n = some-here g r (f .is) (y .lies) in
-        let c = ended-clear r (rangeIn s (b .start) (b .end)) (drop (g + 1) (jobGaps s)) k (l .1) (ahead-of g (jobGaps s) (q .ordered) (f .is)) in
+        let c = ended-clear r (rangeIn s (b .start) (b .end)) (drop (g + 1) (jobGaps s)) k (l .1) (pairs-at Ahead g (jobGaps s) (q .ordered) (f .is)) in
         let d = past-all r m v (omega arith) in
         let rest : pieces (drop (g + 1) (jobGaps s)) r ≡ pieces (drop m (jobGaps s)) r = all-clear r (drop (g + 1) (jobGaps s)) c ∙ sym (d .0) in
         let rest-met : gapsMet (g + 1) (drop (g + 1) (jobGaps s)) r ≡ gapsMet m (drop m (jobGaps s)) r = none-met r (g + 1) (drop (g + 1) (jobGaps s)) c ∙ sym (d .1) in
