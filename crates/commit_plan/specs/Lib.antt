@@ -1,3 +1,4 @@
 pub mod Held
 pub mod Views
 pub mod Runs
+pub mod Plans
