@@ -42,7 +42,7 @@ placed-length [] vs e = refl
 placed-length (b ∷ bs) [] e = absurd (omega arith)
 placed-length (b ∷ bs) (v ∷ vs) e = rw (placed-length bs vs (omega arith))
 
-bytes-append : (vs ws : List View) → viewBytes (vs ++ ws) ≡ viewBytes vs ++ viewBytes ws
+pub bytes-append : (vs ws : List View) → viewBytes (vs ++ ws) ≡ viewBytes vs ++ viewBytes ws
 unfolding writeMany
 bytes-append [] ws = refl
 bytes-append (v ∷ vs) ws = rw (bytes-append vs ws) (sym (append-assoc (view .write v) (viewBytes vs) (viewBytes ws)))

@@ -23,7 +23,7 @@ pub record Stands (s : List ℕ) (at past : ℕ) (bytes : List ℕ) : Type 0 whe
   pub are : between s at past ≡ bytes
   pub ends : past ≡ at + length bytes
 
-stands :
+pub stands :
     {A : Type 0} {read : List ℕ → Got A} {write : A → List ℕ} {Within : A → Type 0}
     → Layout read write Within
     → (s : List ℕ) (at past : ℕ) (v : A)

@@ -1,34 +1,40 @@
 -- What it means that a commit is planned. The image is read from the bytes `given`, the job from the bytes `record`.
-use Prim.Native.Nat.{ℕ, _+_, _≤_}
+use Prim.Native.Nat.{ℕ, _+_, _-_, _*_, _≤_}
 use mathlib.Core.Path.{_≡_}
-use mathlib.Core.Bool.{Bool, true}
+use mathlib.Core.Bool.{true, _&&_}
 use mathlib.Core.List.{List, [], _++_, map, flatMap}
-use lib.Dec.{leb}
+use lib.Dec.{leb, eqb}
 use lib.ListN.{length, drop}
 use Rattle.base.specs.Bytes.{Bytes}
 use Rattle.base.specs.Pick.{pick}
 use Rattle.base.specs.Rows.{RowsHold}
+use Rattle.base.specs.Splice.{splice}
 use Rattle.format.specs.Got.{got}
 use Rattle.records.specs.Values.{Run, Image, Job}
 use Rattle.records.specs.Layouts.{run}
 use Rattle.records.specs.Spans.{idsIn}
-use Rattle.manifest.specs.Checks.{all, imageChecks}
-use Rattle.manifest.specs.Index.{imageOf, IndexHold}
+use Rattle.manifest.specs.Checks.{all, has, imageChecks}
+use Rattle.manifest.specs.Index.{imageOf}
+use Rattle.manifest.specs.declared.runs.IndexedRun.{IndexedRun}
 use Rattle.incremental_progress.specs.Entries.{partEntries}
 use Rattle.incremental_progress.specs.Gaps.{runGaps}
 use Rattle.incremental_progress.specs.Plans.{isSourceOf, byKind, runDraws, drawEntries, viewCount, imageLength}
 use Rattle.incremental_progress.specs.Plans as plans
-use Rattle.commit_rows.specs.Numbers.{runOf}
+use Rattle.commit_rows.specs.Numbers.{runOf, runNumbers}
 use Rattle.commit_rows.specs.declared.runs.RunKind.{RunKind}
 use Rattle.commit_rows.specs.declared.runs.RunKind.the-variants.{Other, Source, Destination}
 use Rattle.commit_rows.specs.declared.runs.RunRow.{RunRow}
-use Rattle.commit_durable.specs.Tables.{jobOf, GapsHold, PartsHold}
+use Rattle.commit_durable.specs.Tables.{jobOf, GapsHold}
 use Rattle.commit_gaps.specs.Ordered.{GapsOrdered}
-use Rattle.commit_entries.specs.Planned.{Planned}
+use Rattle.commit_entries.specs.Planned.{PlanReady, Planned, PlannedMore}
+use Rattle.commit_entries.specs.declared.Plan.{Plan}
 use Rattle.commit_outputs.specs.Outputs.{outputBuckets}
 use Rattle.commit_plan.specs.Views.{gapBucket}
+use Rattle.commit_plan.specs.Runs.{viewsAt}
 use Rattle.commit_plan.specs.declared.plan.PlanHead.{PlanHead}
 use Rattle.commit_plan.specs.declared.plan.ImagePlan.{ImagePlan}
+use Rattle.commit_plan.specs.declared.plan.RunPlanned.{RunPlanned}
+use Rattle.commit_plan.specs.declared.plan.RunSize.{RunSize}
 
 -- ---- a run
 abbrev pub kindOf : Job → Run → RunKind
@@ -54,6 +60,76 @@ runBuckets j r = pick (isSourceOf j (r .id)) (map gapBucket (runGaps (plans.jobG
 -- the buckets of all entries, in the order in which they are drawn
 abbrev pub drawBuckets : Job → Image → List ℕ
 drawBuckets j i = outputBuckets 0 (j .parts) ++ flatMap (runBuckets j) i
+
+-- ---- what planning the runs needs
+-- head tells of the job
+pub record HeadHeld (record′ : List ℕ) (h : PlanHead) : Type 0 where
+  pub destination : h .destination ≡ jobOf record′ .destination
+  pub sources : idsIn (h .sources) (drop (h .from) record′) ≡ jobOf record′ .sources
+  pub sources-within : h .from + 4 * h .sources ≤ length record′
+
+pub record GapsReady (record′ gap-table : List ℕ) (h : PlanHead) : Type 0 where
+  pub small : length record′ ≤ 262144
+  pub hold : GapsHold record′ (h .gaps) gap-table
+  pub ordered : GapsOrdered record′
+
+-- the image passed the checks 5 and 6
+pub record ImagePassed (given : List ℕ) : Type 0 where
+  pub small : length given ≤ 262144
+  pub bytes : Bytes given
+  pub tables : imageChecks (imageOf given) .tables ≡ true
+  pub order : imageChecks (imageOf given) .order ≡ true
+
+-- the outputs are planned
+pub record OutputsPlanned (given record′ ids rows : List ℕ) (p : Plan) : Type 0 where
+  pub planned : Planned given record′ ids (flatMap partEntries (jobOf record′ .parts)) (outputBuckets 0 (jobOf record′ .parts)) rows p
+  pub ready : PlanReady ids 65536 p
+
+-- ---- one run
+abbrev pub kindBy : Job → ℕ → RunKind
+kindBy j n = pick (eqb n (j .destination)) Destination (pick (has n (j .sources)) Source Other)
+
+-- the run that stands where the index says
+abbrev pub runIn : List ℕ → IndexedRun → Run
+runIn given x = record { id = x .id; views = viewsAt given (x .first) (x .views) }
+
+pub record RunPlannedMore (given record′ ids : List ℕ) (x : IndexedRun) (p : Plan) (d : List ℕ) (q : RunPlanned) (t : List ℕ) : Type 0 where
+  pub kind : q .kind ≡ kindBy (jobOf record′) (x .id)
+  pub more : PlannedMore given record′ ids (runDraws (jobOf record′) (runIn given x)) (runBuckets (jobOf record′) (runIn given x)) p d (q .plan) t
+
+-- its size, if its rows took a plan from p to q
+abbrev pub sizeBy : RunKind → IndexedRun → Plan → Plan → Plan → RunSize
+sizeBy Other x p q o = record { views = x .views; bytes = x .past - x .first }
+sizeBy Source x p q o = record { views = q .rows - p .rows; bytes = q .bytes - p .bytes }
+sizeBy Destination x p q o = record { views = q .rows - p .rows + o .rows; bytes = q .bytes - p .bytes + o .bytes }
+
+pub record SizeReady (x : IndexedRun) (p q o : Plan) : Type 0 where
+  pub rows : p .rows ≤ q .rows
+  pub bytes : p .bytes ≤ q .bytes
+  pub place : x .first ≤ x .past
+  pub few : q .rows ≤ 1099511627776
+  pub short : q .bytes ≤ q .rows * 1048576
+  pub few-outputs : o .rows ≤ 65536
+  pub short-outputs : o .bytes ≤ o .rows * 1048576
+
+pub record CountReady (x : IndexedRun) (a : ImagePlan) (one : RunPlanned) (o : Plan) : Type 0 where
+  pub size : SizeReady x (a .plan) (one .plan) o
+  pub small : x .past ≤ 262144
+  pub bytes : a .bytes ≤ 4611686018427387904
+
+pub record RunCounted (k : ℕ) (x : IndexedRun) (one : RunPlanned) (a : ImagePlan) (o : Plan) (d : List ℕ) (r : ImagePlan) (t : List ℕ) : Type 0 where
+  pub is :
+      r
+      ≡ record {
+        plan = one .plan;
+        outputs = a .outputs;
+        bytes = a .bytes + 6 + sizeBy (one .kind) x (a .plan) (one .plan) o .bytes;
+        fits = a .fits && leb (sizeBy (one .kind) x (a .plan) (one .plan) o .views) 1024;
+      }
+  pub put :
+      t
+      ≡ splice d (k * 6)
+      (runNumbers (record { id = x .id; views = x .views; first = x .first; past = x .past; kind = one .kind; rows = one .plan .rows - a .plan .rows }))
 
 -- ---- the commit
 pub record CommitPlanned (given record′ ids rows runs : List ℕ) (q : ImagePlan) : Type 0 where

@@ -6,4 +6,4 @@ mod views;
 
 pub use plan::ImagePlan;
 pub use plan::PlanHead;
-pub use runs::plan_run;
+pub use plan::plan_runs;
