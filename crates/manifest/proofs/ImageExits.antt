@@ -1,4 +1,5 @@
--- What the loops over views and runs keep: the values read so far, and the first of the checks 4 to 7 that these fail.
+-- What the loops over views and runs keep: the values read so far, the first of the checks 4 to 7 that these fail, and the rows
+-- of the runs.
 -- Assumes nothing.
 use Prim.Native.Nat.{ℕ, suc, _+_, _*_, _-_, _^_, _≤_, _<_}
 use native.Mathlib.Omega.{arith}
@@ -13,8 +14,7 @@ use lib.Dec.{T, eqb, leb}
 use mir.Val.{Fits}
 use mir.Syntax.{w64}
 use borrow.Author.Tests.{leb-true, eq-eqb, ne-eqb}
-use Rattle.base.specs.Outcome.{Outcome, answer, check}
-use Rattle.base.specs.Outcome as outcome
+use Rattle.base.specs.Outcome.{answer, check}
 use Rattle.base.specs.Rows.{RowsHold, hold-none, hold-more}
 use Rattle.base.specs.Splice.{splice, spliced-length}
 use Rattle.key.specs.Order.{atMost}

@@ -1,4 +1,4 @@
--- `manifest::images::image_front` meets its contract.
+-- `manifest::image_front` meets its contract.
 -- Assumes nothing.
 use Rattle.manifest.proofs.ImageExits.{image-exits}
 use borrow.Author.Needs.{needs}

@@ -1,4 +1,4 @@
--- `manifest::images::image_indexed` meets its contract.
+-- `manifest::image_indexed` meets its contract.
 -- Assumes nothing.
 use Rattle.manifest.proofs.RunExits.{image-indexed-exits}
 use borrow.Author.Needs.{needs}

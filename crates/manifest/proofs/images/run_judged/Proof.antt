@@ -1,4 +1,4 @@
--- `manifest::images::run_judged` meets its contract.
+-- `manifest::run_judged` meets its contract.
 -- Assumes nothing.
 use Rattle.manifest.proofs.ImageExits.{run-exits}
 use borrow.Author.Needs.{needs}

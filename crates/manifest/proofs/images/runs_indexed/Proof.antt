@@ -1,4 +1,4 @@
--- `manifest::images::runs_indexed` meets its contract.
+-- `manifest::runs_indexed` meets its contract.
 -- Assumes nothing.
 use Rattle.manifest.proofs.ImageExits.{runs-exits, RunsSeen}
 use Prim.Native.Nat.{_-_}

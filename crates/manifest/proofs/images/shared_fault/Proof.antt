@@ -1,4 +1,4 @@
--- `manifest::images::shared_fault` meets its contract.
+-- `manifest::shared_fault` meets its contract.
 -- Assumes nothing.
 use Rattle.manifest.proofs.ImageExits.{shared-exits}
 use borrow.Author.Needs.{needs}

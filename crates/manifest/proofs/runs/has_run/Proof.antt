@@ -1,4 +1,4 @@
--- `manifest::runs::has_run` meets its contract.
+-- `manifest::has_run` meets its contract.
 -- Assumes nothing.
 use Rattle.manifest.proofs.RunExits.{has-exits}
 use borrow.Author.Needs.{needs}

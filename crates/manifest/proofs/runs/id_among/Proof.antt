@@ -1,4 +1,4 @@
--- `manifest::runs::id_among` meets its contract.
+-- `manifest::id_among` meets its contract.
 -- Assumes nothing.
 use Rattle.manifest.proofs.ImageExits.{among-exits, NotYet}
 use Prim.Native.Nat.{_-_}

@@ -1,4 +1,4 @@
--- `manifest::runs::indexed_run` meets its contract.
+-- `manifest::indexed_run` meets its contract.
 -- Assumes nothing.
 use Rattle.manifest.proofs.RunExits.{indexed-exits}
 use borrow.Author.Needs.{needs}

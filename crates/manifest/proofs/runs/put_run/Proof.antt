@@ -1,4 +1,4 @@
--- `manifest::runs::put_run` meets its contract.
+-- `manifest::put_run` meets its contract.
 -- Assumes nothing.
 use Rattle.manifest.proofs.RunRows.{row-exits}
 use borrow.Author.Needs.{needs}

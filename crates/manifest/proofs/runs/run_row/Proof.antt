@@ -1,4 +1,4 @@
--- `manifest::runs::run_row` meets its contract.
+-- `manifest::run_row` meets its contract.
 -- Assumes nothing.
 use Rattle.manifest.proofs.RunRows.{row-exits}
 use borrow.Author.Needs.{needs}
