@@ -8,6 +8,8 @@ use mathlib.Core.List.{List, [], _∷_, _++_, map, flatMap, append-nil, append-a
 use lib.Dec.{T, leb}
 use lib.ListN.{length, take, drop, length-append}
 use lib.Seq.{take-all, length-take-le}
+use mir.Val.{Fits}
+use mir.Syntax.{w64}
 use Rattle.base.specs.Bytes.{Bytes}
 use Rattle.base.specs.Lists.{All, flatMap-append}
 use Rattle.base.specs.Pick.{and-first}
@@ -30,6 +32,7 @@ use Rattle.incremental_progress.proofs.Plans.{length-more}
 use Rattle.incremental_progress.proofs.PlanBytes.{run-length}
 use Rattle.commit_rows.specs.Numbers.{runOf, runNumbers}
 use Rattle.commit_rows.specs.declared.runs.RunKind.{RunKind}
+use Rattle.commit_rows.specs.declared.runs.RunKind.the-variants.{Other, Source, Destination}
 use Rattle.commit_rows.specs.declared.runs.RunRow.{RunRow}
 use Rattle.commit_rows.proofs.RowExits.{run-back}
 use Rattle.commit_durable.specs.Tables.{jobOf}
@@ -66,6 +69,12 @@ all-more f (q ∷ rs) r = rw (all-more f rs r) (go (f q))
     go : (b : Bool) → (b && (all f rs && f r)) ≡ ((b && all f rs) && f r)
     go true = refl
     go false = refl
+
+-- how large a run can become
+size-small : (kind : RunKind) (y : IndexedRun) (p q o : Plan) → SizeReady y p q o → y .past ≤ 262144 → q .rows ≤ 8388608 → sizeBy kind y p q o .bytes ≤ 2251799813685248
+size-small Other y p q o z h m = omega (arith, z .place)
+size-small Source y p q o z h m = omega (arith, z .short)
+size-small Destination y p q o z h m = omega (arith, z .short, z .few-outputs, z .short-outputs)
 
 abbrev partsOf : List ℕ → List Entry
 partsOf s = flatMap partEntries (jobOf s .parts)
@@ -160,6 +169,9 @@ module _ {given s ids gap-table index : List ℕ} {h : PlanHead} {o : Plan} {d e
       }
 
   module _ (l : k < h .runs) where
+    pub runs-next : Fits w64 (k + 1)
+    runs-next = omega (arith, x .hold .most)
+
     pub runs-room : k * 6 + 6 ≤ length runs
     runs-room = omega (arith, x .hold .most, x .long)
 
@@ -235,3 +247,77 @@ module _ {given s ids gap-table index : List ℕ} {h : PlanHead} {o : Plan} {d e
 
         pub runs-more-rows : length t ≡ length e
         runs-more-rows = more .same ∙ x .same-rows
+
+        module _ {b : ImagePlan} {u : List ℕ} (c : RunCounted k y one a o runs b u) where
+          row : RunRow
+          row = record { id = y .id; views = y .views; first = y .first; past = y .past; kind = one .kind; rows = one .plan .rows - a .plan .rows }
+
+          more-runs : take (k + 1) (imageOf given) ≡ take k (imageOf given) ++ (f .run ∷ [])
+          more-runs = take-more k (imageOf given) (f .is)
+
+          seen-long : length (take k (imageOf given)) ≡ k
+          seen-long = length-take-le k (imageOf given) (omega (arith, x .hold .count))
+
+          views-count : sizeBy (one .kind) y (a .plan) (one .plan) o .views ≡ viewCount (jobOf s) (f .run)
+          views-count =
+              ap (λ (q : RunKind). sizeBy q y (a .plan) (one .plan) o .views) kind-is
+              ∙ size-views-are (jobOf s) (f .run) y (a .plan) (one .plan) o rows-are bytes-are (x .out-rows) (x .out-bytes) (f .held .count) long
+
+          bytes-count : sizeBy (one .kind) y (a .plan) (one .plan) o .bytes ≡ viewsLength (jobOf s) (f .run)
+          bytes-count =
+              ap (λ (q : RunKind). sizeBy q y (a .plan) (one .plan) o .bytes) kind-is
+              ∙ size-bytes-are (jobOf s) (f .run) y (a .plan) (one .plan) o rows-are bytes-are (x .out-rows) (x .out-bytes) (f .held .count) long
+
+          held-row : RunHeld given (jobOf s) (f .run) row
+          unfolding row
+          held-row =
+              record {
+                id = f .held .id;
+                kind = kind-is;
+                rows = omega (arith, rows-are);
+                at = f .held .at;
+                first = f .held .first;
+                past = f .held .past;
+                is = f .held .run-is;
+              }
+
+          made-row : RunMade given (jobOf s) (f .run) (runNumbers row)
+          made-row = subst (λ (q : RunRow). RunHeld given (jobOf s) (f .run) q) (sym (run-back row)) held-row
+
+          put-row : u ≡ splice runs (length (take k (imageOf given)) * 6) (runNumbers row)
+          unfolding row
+          put-row = rw seen-long (c .put)
+
+          pub runs-more-same : length u ≡ length d
+          unfolding row
+          runs-more-same = spliced-length runs (k * 6) (runNumbers row) (c .put) (omega (arith, x .hold .most, x .long)) ∙ x .same-runs
+
+          pub runs-onward : RunsSeen given s ids gap-table index h o d e (k + 1) b u t
+          runs-onward =
+              let v = draws-more (jobOf s) (take k (imageOf given)) (f .run) in
+              let w′ = buckets-more (jobOf s) (take k (imageOf given)) (f .run) in
+              let assoc = append-assoc (partsOf s) (flatMap (runDraws (jobOf s)) (take k (imageOf given))) (runDraws (jobOf s) (f .run)) in
+              let assoc′ = append-assoc (outputBuckets 0 (jobOf s .parts)) (flatMap (runBuckets (jobOf s)) (take k (imageOf given))) (runBuckets (jobOf s) (f .run)) in
+              rw (c .is)
+              (record {
+                hold = x .hold;
+                passed = x .passed;
+                head = x .head;
+                gaps = x .gaps;
+                out-rows = x .out-rows;
+                out-bytes = x .out-bytes;
+                out-ready = x .out-ready;
+                upto = omega arith;
+                planned = rw (more-runs, v, w′) (rw (assoc, assoc′) at now);
+                ready = record { few = omega (arith, ready-now .few, few-draws); few-cuts = ready-now .few-cuts; short = ready-now .short; within = ready-now .within };
+                outputs = x .outputs;
+                bytes = rw (more-runs, length-more, bytes-count) (omega (arith, x .bytes));
+                short = omega (arith, x .short, size-small (one .kind) y (a .plan) (one .plan) o size (omega (arith, f .held .past, x .passed .small)) (omega (arith, ready-now .few, few-draws, x .upto, x .hold .most)));
+                fits = rw (more-runs, all-more, views-count, x .fits);
+                made = rw (more-runs, put-row) (hold-more 6 (RunMade given (jobOf s)) (f .run) (runNumbers row) (x .made) refl (rw seen-long runs-room) made-row);
+                long = omega (arith, runs-more-same, x .same-runs, x .long);
+                same-runs = runs-more-same;
+                same-rows = runs-more-rows;
+              })
+
+pub ruleset runs-exits = (runs-begin, runs-hold, runs-head, runs-gaps, runs-same, runs-same-rows, runs-plan, runs-all, runs-next, runs-room, runs-ready, runs-count, runs-more-rows, runs-more-same, runs-onward)

@@ -1,57 +1,46 @@
+-- `commit_plan::plan::plan_runs` meets its contract.
+-- Assumes nothing.
+use Rattle.commit_plan.proofs.RunsExits.{RunsSeen, runs-exits}
+use Prim.Native.Nat.{_-_}
 use borrow.Author.Needs.{needs}
 use Rattle.commit_plan.proofs.plan.plan_runs.Statement.{statement}
 use Rattle.commit_plan.proofs.plan.plan_runs.Tie as tie
-use Rattle.commit_plan.proofs.plan.plan_runs.Reads as reads
-use Rattle.commit_plan.proofs.plan.plan_runs.Lts as lts
-use Rattle.commit_plan.proofs.plan.count_run.Reads as count-run-reads
-use Rattle.commit_plan.proofs.plan.plan_one.Reads as plan-one-reads
-use Rattle.manifest.proofs.indexed_run.Reads as indexed-run-reads
 
 abbrev Inv-loop : tie.InvT-loop
-Inv-loop image job ids gaps index runs₀ rows₀ head outputs k₀ a₀ runs rows k a = ?
+Inv-loop image job ids gaps index runs₀ rows₀ head outputs k₀ a₀ runs rows k a = RunsSeen image job ids gaps index head outputs runs₀ rows₀ k a runs rows
 
 abbrev μ-loop : tie.MeasureT-loop
-μ-loop image job ids gaps index runs₀ rows₀ head outputs k₀ a₀ runs rows k a = ?
+μ-loop image job ids gaps index runs₀ rows₀ head outputs k₀ a₀ runs rows k a = head .runs - k
 
--- src/plan.rt:182:5
 loop-holds : tie.Need-loop-holds Inv-loop μ-loop
-loop-holds c = search needs
+loop-holds c = search (needs, runs-exits)
 
--- src/plan.rt:183:13
 indexed-run-requires : tie.Need-indexed-run-requires Inv-loop μ-loop
-indexed-run-requires c κs = search needs
+indexed-run-requires c κs = search (needs, runs-exits)
 
--- src/plan.rt:185:13
 plan-one-requires : tie.Need-plan-one-requires Inv-loop μ-loop
-plan-one-requires c κs = search needs
+plan-one-requires c κs = (search (needs, runs-exits, c .before .before .indexed-run .ensures), (search (needs, runs-exits, c .before .before .indexed-run .ensures), (search (needs, runs-exits, c .before .before .indexed-run .ensures), search (needs, runs-exits, c .before .before .indexed-run .ensures))))
 
--- src/plan.rt:186:9
 count-run-requires : tie.Need-count-run-requires Inv-loop μ-loop
-count-run-requires c κs = search needs
+count-run-requires c κs = search (needs, runs-exits)
 
--- src/plan.rt:187:9
 add-k : tie.Need-add-k Inv-loop μ-loop
-add-k c = search needs
+add-k c = search (needs, runs-exits)
 
--- src/plan.rt:182:5
 loop-less : tie.Need-loop-less Inv-loop μ-loop
-loop-less c = search needs
+loop-less c = search (needs, runs-exits)
 
--- src/plan.rt:182:5
 loop-again : tie.Need-loop-again Inv-loop μ-loop
-loop-again c = search needs
+loop-again c = search (needs, runs-exits, c .before .before .before .before .before .before .before .before .before .indexed-run .ensures, c .before .before .before .before .before .before .plan-one .ensures, c .before .before .count-run .ensures)
 
--- src/plan.rt:160:1
 same-length : tie.Need-same-length Inv-loop μ-loop
-same-length c = search needs
+same-length c = search (needs, runs-exits)
 
--- src/plan.rt:160:1
 same-length-2 : tie.Need-same-length-2 Inv-loop μ-loop
-same-length-2 c = search needs
+same-length-2 c = search (needs, runs-exits)
 
--- src/plan.rt:160:1
 returns : tie.Need-returns Inv-loop μ-loop
-returns c = search needs
+returns c = search (needs, runs-exits)
 
 pub plan-runs-spec : {M : Type 1} → statement M
 plan-runs-spec =
