@@ -1,3 +1,5 @@
 pub mod EachLaws
 pub mod Copied
 pub mod Places
+pub mod Rows
+pub mod OneRun
