@@ -3,3 +3,4 @@ pub mod Copied
 pub mod Places
 pub mod Rows
 pub mod OneRun
+pub mod AllRuns
