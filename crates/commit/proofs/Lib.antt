@@ -4,3 +4,5 @@ pub mod Places
 pub mod Rows
 pub mod OneRun
 pub mod AllRuns
+pub mod Planned
+pub mod Image
