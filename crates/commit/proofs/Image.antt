@@ -23,13 +23,14 @@ use Rattle.commit_write.proofs.Made.{image-made}
 use Rattle.commit.proofs.Rows.{rows-inside}
 use Rattle.commit.proofs.OneRun.{outputs-bucketed}
 use Rattle.commit.proofs.AllRuns.{runs-made, runs-fit}
-use Rattle.commit.proofs.Planned.{Accepted, countsOf, views, outs, own, tableRows, runRows, runs-held, rows-long, all-made, own-length, outputs-made, own-made, outputs-many}
+use Rattle.commit.proofs.Filled.{views, new, new-length}
+use Rattle.commit.proofs.Planned.{Accepted, countsOf, outs, own, tableRows, runRows, runs-held, rows-long, all-made, own-length, outputs-made, own-made, outputs-many}
 
 module _ {given record′ ids rows runs : List ℕ} {q : ImagePlan} (a : Accepted given record′ ids rows runs q) where
-  pub planned-is-new : plannedImage given record′ ids runs rows (countsOf given q) ≡ image .write (newImage (jobOf record′) (imageOf given) (views a))
+  pub planned-is-new : plannedImage given record′ ids runs rows (countsOf given q) ≡ image .write (new (a .planned))
   unfolding newImage
   planned-is-new =
-      image-made given record′ ids (take (q .outputs) (tableRows a)) (runRows a) (drop (q .outputs) (tableRows a)) (newImage (jobOf record′) (imageOf given) (views a))
+      image-made given record′ ids (take (q .outputs) (tableRows a)) (runRows a) (drop (q .outputs) (tableRows a)) (new (a .planned))
       (runs-made (a .bytes) (outputs-made a) (imageOf given) (runRows a) (own a) (drop (q .outputs) (tableRows a)) (runs-held a) (own-length a) (own-made a))
 
   counts-small : All (λ r. viewCount (jobOf record′) r ≤ 1024) (imageOf given)
@@ -46,14 +47,14 @@ module _ {given record′ ids rows runs : List ℕ} {q : ImagePlan} (a : Accepte
   pub new-writable :
       (order out : List ℕ)
       → 1024 ≤ length order
-      → length (image .write (newImage (jobOf record′) (imageOf given) (views a))) ≤ length out
+      → q .bytes ≤ length out
       → Writable given record′ ids runs rows order (countsOf given q) out
   new-writable order out h l =
       record {
         runs-long = a .planned .runs-are .long;
         rows-long = rows-long a;
-        inside = rows-inside given record′ ids (placed (drawBuckets (jobOf record′) (imageOf given)) (views a)) (tableRows a) (all-made a);
+        inside = rows-inside given record′ ids (placed (drawBuckets (jobOf record′) (imageOf given)) (views (a .planned))) (tableRows a) (all-made a);
         small = outputs-bucketed (outputs-made a);
         fit = runs-all-fit order h;
-        room = rw planned-is-new l;
+        room = rw (planned-is-new, ← (new-length (a .planned) (a .enough) (a .bytes) (a .job-bytes))) l;
       }

@@ -4,5 +4,7 @@ pub mod Places
 pub mod Rows
 pub mod OneRun
 pub mod AllRuns
+pub mod Read
+pub mod Filled
 pub mod Planned
 pub mod Image

@@ -8,13 +8,12 @@ use mathlib.Core.List.{List, _++_, map, flatMap}
 use lib.ListN.{length, take, drop, length-append, length-drop, length-map}
 use lib.Seq.{length-take-le}
 use Rattle.base.specs.Bytes.{Bytes}
-use Rattle.base.specs.Pick.{pick}
 use Rattle.base.specs.Rows.{Each, rowsIn}
 use Rattle.records.specs.Values.{View, Run, Image, Job}
 use Rattle.manifest.specs.Index.{imageOf}
 use Rattle.incremental_progress.specs.Parts.{intervals}
 use Rattle.incremental_progress.specs.Entries.{partEntries}
-use Rattle.incremental_progress.specs.Draws.{Ten, Drawn, got, used-up, supply, fillAll}
+use Rattle.incremental_progress.specs.Draws.{supply}
 use Rattle.incremental_progress.specs.Gaps.{placed}
 use Rattle.incremental_progress.specs.Plans.{runDraws, drawEntries, outputsOf}
 use Rattle.incremental_progress.proofs.FilledViews.{filled-length}
@@ -35,11 +34,13 @@ use Rattle.commit.proofs.Places.{placed-append, placed-length, output-b
 use Rattle.commit.proofs.Rows.{RowMade, row-made}
 use Rattle.commit.proofs.OneRun.{OutputsMade}
 use Rattle.commit.proofs.AllRuns.{planned-length}
+use Rattle.commit.proofs.Read.{parts-few}
+use Rattle.commit.proofs.Filled.{views, left, views-drawn}
 
 -- the ids were enough, the rows had room, and each run of the new image is within the ceiling
 pub record Accepted (given record′ ids rows runs : List ℕ) (q : ImagePlan) : Type 0 where
   pub bytes : Bytes given
-  pub parts : length (jobOf record′ .parts) ≤ 64
+  pub job-bytes : Bytes record′
   pub planned : CommitPlanned given record′ ids rows runs q
   pub enough : q .plan .enough ≡ true
   pub room : q .plan .rows * 11 ≤ length rows
@@ -56,22 +57,17 @@ module _ {given record′ ids rows runs : List ℕ} {q : ImagePlan} (a : Accepte
   abbrev j : Job
   j = jobOf record′
 
-  -- the views that fill the entries
-  abbrev pub views : List View
-  views = a .planned .planned .views
+  abbrev vs : List View
+  vs = views (a .planned)
 
-  -- the ids that are left
-  abbrev pub left : List Ten
-  left = supply (drop (q .plan .drawn) ids)
-
-  pub drawn : fillAll (drawEntries j i) (supply ids) ≡ got views left
-  drawn = a .planned .planned .drawn ∙ ap (λ b. pick b (got views left) used-up) (a .enough)
+  filled : length vs ≡ length (drawEntries j i)
+  filled = filled-length (drawEntries j i) (supply ids) vs (left (a .planned)) (views-drawn (a .planned) (a .enough))
 
   abbrev pub outs : List (List View)
-  outs = outputsOf (j .parts) (take (length (flatMap partEntries (j .parts))) views)
+  outs = outputsOf (j .parts) (take (length (flatMap partEntries (j .parts))) vs)
 
   abbrev pub own : List View
-  own = drop (length (flatMap partEntries (j .parts))) views
+  own = drop (length (flatMap partEntries (j .parts))) vs
 
   abbrev pub tableRows : List Row
   tableRows = allRows (countsOf given q) runs rows
@@ -84,46 +80,46 @@ module _ {given record′ ids rows runs : List ℕ} {q : ImagePlan} (a : Accepte
   unfolding drawEntries
   entries-length = length-append (flatMap partEntries (j .parts)) (flatMap (runDraws j) i)
 
-  views-length : length views ≡ length (flatMap partEntries (j .parts)) + length (flatMap (runDraws j) i)
-  views-length = filled-length (drawEntries j i) (supply ids) views left drawn ∙ entries-length
+  views-length : length vs ≡ length (flatMap partEntries (j .parts)) + length (flatMap (runDraws j) i)
+  views-length = filled ∙ entries-length
 
   pub runs-held : Each (RunHeld given j) i runRows
   runs-held = each-map (RunMade given j) (RunHeld given j) runOf (λ r row h. h) i (rowsIn 6 (length i) runs) (a .planned .runs-are .rows)
 
-  placed-count : length (placed (drawBuckets j i) views) ≡ length views
+  placed-count : length (placed (drawBuckets j i) vs) ≡ length vs
   placed-count =
-      placed-length (drawBuckets j i) views
-      (a .planned .planned .many ∙ sym (filled-length (drawEntries j i) (supply ids) views left drawn))
+      placed-length (drawBuckets j i) vs
+      (a .planned .planned .many ∙ sym (filled))
 
-  pub rows-count : q .outputs + planned runRows ≡ length (placed (drawBuckets j i) views)
+  pub rows-count : q .outputs + planned runRows ≡ length (placed (drawBuckets j i) vs)
   rows-count = omega (arith, a .planned .outputs, planned-length given j i runRows runs-held, placed-count, views-length)
 
   pub rows-long : (q .outputs + planned runRows) * 11 ≤ length rows
   rows-long = rw rows-count (a .planned .planned .kept (a .enough) (a .room) .long)
 
   -- ---- the rows
-  pub all-made : Each (RowMade given record′ ids) (placed (drawBuckets j i) views) tableRows
+  pub all-made : Each (RowMade given record′ ids) (placed (drawBuckets j i) vs) tableRows
   all-made =
-      subst (λ n. Each (RowMade given record′ ids) (placed (drawBuckets j i) views) (map rowOf (rowsIn 11 n rows))) (sym rows-count)
-      (each-map (RowIs given record′ ids) (RowMade given record′ ids) rowOf (row-made given record′ ids) (placed (drawBuckets j i) views)
-      (rowsIn 11 (length (placed (drawBuckets j i) views)) rows) (a .planned .planned .kept (a .enough) (a .room) .rows))
+      subst (λ n. Each (RowMade given record′ ids) (placed (drawBuckets j i) vs) (map rowOf (rowsIn 11 n rows))) (sym rows-count)
+      (each-map (RowIs given record′ ids) (RowMade given record′ ids) rowOf (row-made given record′ ids) (placed (drawBuckets j i) vs)
+      (rowsIn 11 (length (placed (drawBuckets j i) vs)) rows) (a .planned .planned .kept (a .enough) (a .room) .rows))
 
   abbrev front : List View
-  front = take (length (flatMap partEntries (j .parts))) views
+  front = take (length (flatMap partEntries (j .parts))) vs
 
   front-length : length front ≡ length (flatMap partEntries (j .parts))
-  front-length = length-take-le (length (flatMap partEntries (j .parts))) views (omega (arith, views-length))
+  front-length = length-take-le (length (flatMap partEntries (j .parts))) vs (omega (arith, views-length))
 
   pub own-length : length own ≡ length (flatMap (runDraws j) i)
-  own-length = length-drop (length (flatMap partEntries (j .parts))) views ∙ omega (arith, views-length)
+  own-length = length-drop (length (flatMap partEntries (j .parts))) vs ∙ omega (arith, views-length)
 
   buckets-long : length (outputBuckets 0 (j .parts)) ≡ length (flatMap partEntries (j .parts))
   buckets-long = output-buckets-length 0 (j .parts)
 
-  placed-split : placed (drawBuckets j i) views ≡ outputsPlaced 0 outs ++ placed (flatMap (runBuckets j) i) own
+  placed-split : placed (drawBuckets j i) vs ≡ outputsPlaced 0 outs ++ placed (flatMap (runBuckets j) i) own
   placed-split =
-      placed-append (outputBuckets 0 (j .parts)) (flatMap (runBuckets j) i) views (omega (arith, buckets-long, views-length))
-      ∙ ap (λ n. placed (outputBuckets 0 (j .parts)) (take n views) ++ placed (flatMap (runBuckets j) i) (drop n views)) buckets-long
+      placed-append (outputBuckets 0 (j .parts)) (flatMap (runBuckets j) i) vs (omega (arith, buckets-long, views-length))
+      ∙ ap (λ n. placed (outputBuckets 0 (j .parts)) (take n vs) ++ placed (flatMap (runBuckets j) i) (drop n vs)) buckets-long
       ∙ ap (λ l. l ++ placed (flatMap (runBuckets j) i) own) (outputs-placed 0 (j .parts) front front-length)
 
   split-made : Each (RowMade given record′ ids) (outputsPlaced 0 outs ++ placed (flatMap (runBuckets j) i) own) tableRows
@@ -141,7 +137,7 @@ module _ {given record′ ids rows runs : List ℕ} {q : ImagePlan} (a : Accepte
       let n : length outs ≡ length (intervals (j .parts)) = outputs-count (j .parts) front in
       record {
         count = n;
-        few = omega (arith, n, intervals-few (j .parts), a .parts);
+        few = omega (arith, n, intervals-few (j .parts), parts-few record′ (a .job-bytes));
         rows = subst (λ n. Each (RowMade given record′ ids) (outputsPlaced 0 outs) (take n tableRows)) outputs-long
             (each-front (RowMade given record′ ids) (outputsPlaced 0 outs) (placed (flatMap (runBuckets j) i) own) tableRows split-made);
       }
@@ -154,4 +150,4 @@ module _ {given record′ ids rows runs : List ℕ} {q : ImagePlan} (a : Accepte
   pub outputs-many : length (take (q .outputs) tableRows) ≡ q .outputs
   outputs-many =
       length-take-le (q .outputs) tableRows
-      (omega (arith, each-length (RowMade given record′ ids) (placed (drawBuckets j i) views) tableRows all-made, rows-count))
+      (omega (arith, each-length (RowMade given record′ ids) (placed (drawBuckets j i) vs) tableRows all-made, rows-count))
