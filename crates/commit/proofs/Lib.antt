@@ -8,3 +8,4 @@ pub mod Read
 pub mod Filled
 pub mod Planned
 pub mod Image
+pub mod Least
