@@ -28,3 +28,18 @@ unfolding view
 view-least v w =
     let t = table-least (v .table) (table-keys (v .table) (w .table) .id) in
     simp (length-append, number-length) (omega (arith, w .id, t))
+
+entry-least : (e : Entry) → ViewWithin (source e) → 60 ≤ length (view .write (entryView e))
+unfolding view
+entry-least (whole v) w = view-least v w
+entry-least (cut v r) w =
+    let t = table-least (v .table) (table-keys (v .table) (w .table) .id) in
+    simp (length-append, number-length) (omega (arith, w .id, t))
+
+-- ---- entries
+pub entries-least : (es : List Entry) → All (λ e. ViewWithin (source e)) es → 60 * length es ≤ length (entryBytes es)
+unfolding writeMany
+entries-least [] a = omega arith
+entries-least (e ∷ es) a =
+    let l = length-append (view .write (entryView e)) (entryBytes es) in
+    omega (arith, l, entry-least e (a .0), entries-least es (a .1))

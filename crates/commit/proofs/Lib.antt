@@ -9,3 +9,4 @@ pub mod Filled
 pub mod Planned
 pub mod Image
 pub mod Least
+pub mod Few
