@@ -1,6 +1,6 @@
 -- The runs of the plan make the new runs, and fit.
 -- Assumes nothing.
-use Prim.Native.Nat.{ℕ, suc, _+_, _≤_}
+use Prim.Native.Nat.{ℕ, _+_, _≤_}
 use native.Mathlib.Omega.{arith}
 use mathlib.Core.Path.{_≡_, refl, sym, ap, subst, _∙_}
 use mathlib.Core.List.{List, [], _∷_, _++_, flatMap}
@@ -77,9 +77,10 @@ module _ {given job ids : List ℕ} {j : Job} {outs : List (List View)} {outputs
   runs-made [] (x ∷ xs) vs rows h c e = absurd h
   runs-made (r ∷ rs) [] vs rows h c e = absurd h
   runs-made (r ∷ rs) (x ∷ xs) vs rows h c e =
-      let s = split r rs x vs rows (h .0) c e in
-      (run-made o r (take (length (runDraws j r)) vs) (take (x .rows) rows) b x (h .0) (s .own-count) (s .own),
-      runs-made rs xs (drop (length (runDraws j r)) vs) (drop (x .rows) rows) (h .1) (s .rest-count) (s .rest))
+      let s = split r rs x vs rows (h .0) c e in (
+        run-made o r (take (length (runDraws j r)) vs) (take (x .rows) rows) b x (h .0) (s .own-count) (s .own),
+        runs-made rs xs (drop (length (runDraws j r)) vs) (drop (x .rows) rows) (h .1) (s .rest-count) (s .rest),
+      )
 
   pub runs-fit :
       (places : ℕ) (rs : List Run) (xs : List RunRow) (vs : List View) (rows : List Row)
@@ -94,6 +95,7 @@ module _ {given job ids : List ℕ} {j : Job} {outs : List (List View)} {outputs
   runs-fit places [] (x ∷ xs) vs rows h c e f m p = absurd h
   runs-fit places (r ∷ rs) [] vs rows h c e f m p = absurd h
   runs-fit places (r ∷ rs) (x ∷ xs) vs rows h c e f m p =
-      let s = split r rs x vs rows (h .0) c e in
-      (run-fits o r (take (length (runDraws j r)) vs) (take (x .rows) rows) b x (h .0) (s .own-count) (s .own) places (f .0) m p,
-      runs-fit places rs xs (drop (length (runDraws j r)) vs) (drop (x .rows) rows) (h .1) (s .rest-count) (s .rest) (f .1) m p)
+      let s = split r rs x vs rows (h .0) c e in (
+        run-fits o r (take (length (runDraws j r)) vs) (take (x .rows) rows) b x (h .0) (s .own-count) (s .own) places (f .0) m p,
+        runs-fit places rs xs (drop (length (runDraws j r)) vs) (drop (x .rows) rows) (h .1) (s .rest-count) (s .rest) (f .1) m p,
+      )

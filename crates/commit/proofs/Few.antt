@@ -2,7 +2,7 @@
 -- Assumes nothing.
 use Prim.Native.Nat.{ℕ, _+_, _*_, _≤_}
 use native.Mathlib.Omega.{arith}
-use mathlib.Core.Path.{_≡_, refl, sym, ap, _∙_}
+use mathlib.Core.Path.{_≡_, refl, sym, _∙_}
 use mathlib.Core.Bool.{Bool, true, false, _||_, false≢true}
 use mathlib.Core.List.{List, [], _∷_, _++_, map, flatMap}
 use lib.Dec.{eqb}
@@ -13,7 +13,7 @@ use Rattle.base.specs.Pick.{pick, and-first, and-second}
 use Rattle.base.specs.Lists.{All, All-map, All-of, All-mapped, All-flatMap}
 use Rattle.comparable_range.specs.Range.{Range}
 use Rattle.records.specs.Values.{View, Run, Image, Job}
-use Rattle.records.proofs.Within.{ViewWithin, RunWithin, ImageWithin}
+use Rattle.records.proofs.Within.{ViewWithin}
 use Rattle.manifest.specs.Ranges.{effective}
 use Rattle.manifest.specs.Checks.{all, has}
 use Rattle.manifest.specs.Index.{imageOf}

@@ -1,15 +1,13 @@
 -- What the writer makes of the plan is the new image, and it can be written.
 -- Assumes nothing.
-use Prim.Native.Nat.{ℕ, _+_, _*_, _≤_}
-use native.Mathlib.Omega.{arith}
-use mathlib.Core.Path.{_≡_, refl, sym, ap, subst, _∙_}
-use mathlib.Core.Bool.{Bool, true}
-use mathlib.Core.List.{List, map, flatMap}
+use Prim.Native.Nat.{ℕ, _≤_}
+use mathlib.Core.Path.{_≡_, sym, subst, _∙_}
+use mathlib.Core.Bool.{true}
+use mathlib.Core.List.{List}
 use lib.Dec.{leb}
 use lib.ListN.{length, take, drop}
 use borrow.Author.Tests.{leb-true}
 use Rattle.base.specs.Lists.{All, All-map}
-use Rattle.records.specs.Values.{Run}
 use Rattle.records.specs.Layouts.{image}
 use Rattle.manifest.specs.Index.{imageOf}
 use Rattle.incremental_progress.specs.Gaps.{placed}
@@ -24,7 +22,7 @@ use Rattle.commit.proofs.Rows.{rows-inside}
 use Rattle.commit.proofs.OneRun.{outputs-bucketed}
 use Rattle.commit.proofs.AllRuns.{runs-made, runs-fit}
 use Rattle.commit.proofs.Filled.{views, new, new-length}
-use Rattle.commit.proofs.Planned.{Accepted, countsOf, outs, own, tableRows, runRows, runs-held, rows-long, all-made, own-length, outputs-made, own-made, outputs-many}
+use Rattle.commit.proofs.Planned.{Accepted, countsOf, own, tableRows, runRows, runs-held, rows-long, all-made, own-length, outputs-made, own-made, outputs-many}
 
 module _ {given record′ ids rows runs : List ℕ} {q : ImagePlan} (a : Accepted given record′ ids rows runs q) where
   pub planned-is-new : plannedImage given record′ ids runs rows (countsOf given q) ≡ image .write (new (a .planned))

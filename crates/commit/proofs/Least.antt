@@ -1,17 +1,16 @@
 -- Each entry takes 60 bytes or more, so that few rows fit into an image.
 -- Assumes nothing.
-use Prim.Native.Nat.{ℕ, _+_, _*_, _≤_}
+use Prim.Native.Nat.{_*_, _≤_}
 use native.Mathlib.Omega.{arith}
-use mathlib.Core.Path.{_≡_, refl, sym, ap, _∙_}
-use mathlib.Core.List.{List, [], _∷_, _++_, map}
+use mathlib.Core.Path.{_≡_}
+use mathlib.Core.List.{List, [], _∷_}
 use lib.ListN.{length, length-append}
 use Rattle.base.specs.Lists.{All}
-use Rattle.format.specs.Number.{writeNumber}
 use Rattle.format.specs.Key.{writeKey}
 use Rattle.format.proofs.Layouts.{number-length}
-use Rattle.records.specs.Form.{writeMany, writeIf, key}
+use Rattle.records.specs.Form.{writeMany}
 use Rattle.records.specs.Values.{Table, View}
-use Rattle.records.specs.Layouts.{flagNumber, isThere, table, view}
+use Rattle.records.specs.Layouts.{table, view}
 use Rattle.records.proofs.Within.{table-keys, ViewWithin}
 use Rattle.incremental_progress.specs.Entries.{Entry, whole, cut, entryView}
 use Rattle.incremental_progress.specs.Plans.{entryBytes}

@@ -1,10 +1,10 @@
 -- A run of the plan makes the new run, and fits.
 -- Assumes nothing.
-use Prim.Native.Nat.{ℕ, suc, _+_, _*_, _≤_, _<_}
+use Prim.Native.Nat.{ℕ, _+_, _*_, _≤_, _<_}
 use native.Mathlib.Omega.{arith}
 use mathlib.Core.Path.{_≡_, refl, sym, ap, subst, _∙_}
 use mathlib.Core.Bool.{Bool, true, false, _||_}
-use mathlib.Core.List.{List, [], _∷_, _++_, map, flatMap}
+use mathlib.Core.List.{List, [], _++_, map, flatMap}
 use lib.Dec.{eqb}
 use lib.ListN.{length, length-map}
 use Rattle.base.specs.Bytes.{Bytes}
@@ -16,7 +16,7 @@ use Rattle.records.specs.Layouts.{view, run}
 use Rattle.manifest.specs.Checks.{has}
 use Rattle.incremental_progress.specs.Parts.{intervals}
 use Rattle.incremental_progress.specs.Entries.{Entry, partEntries}
-use Rattle.incremental_progress.specs.Gaps.{Placed, placed, byGap, gapEntries, runGaps}
+use Rattle.incremental_progress.specs.Gaps.{placed, byGap, gapEntries, runGaps}
 use Rattle.incremental_progress.specs.Plans.{isSourceOf, jobGaps, runDraws, newViews, viewCount}
 use Rattle.incremental_progress.proofs.GapStarts.{gaps-length, run-gaps-bound}
 use Rattle.commit_rows.specs.Numbers.{runKindNumber}
