@@ -20,7 +20,7 @@ use Rattle.commit_write.specs.Runs.{planned, RunsFit}
 use Rattle.commit_write.proofs.Made.{RunsMade}
 use Rattle.commit.proofs.EachLaws.{each-front, each-back}
 use Rattle.commit.proofs.Places.{placed-append, placed-length}
-use Rattle.commit.proofs.Rows.{RowMade}
+use Rattle.commit.proofs.RowsMade.{RowMade}
 use Rattle.commit.proofs.OneRun.{buckets-length, OutputsMade, run-made, run-fits}
 
 -- all runs together have as many rows as entries

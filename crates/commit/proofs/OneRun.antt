@@ -31,8 +31,8 @@ use Rattle.commit_write.proofs.Placed.{RowFor, outputsPlaced, piecesPlaced}
 use Rattle.commit_write.proofs.Made.{other-made, source-made, gaps-made}
 use Rattle.commit.proofs.EachLaws.{each-length, each-append, each-turn}
 use Rattle.commit.proofs.Places.{placed-length, pieces-placed, placed-gaps, outputs-small, pieces-small}
-use Rattle.commit.proofs.Rows.{RowMade, row-for, rows-bucketed, rows-bytes}
-use Rattle.commit.proofs.Copied.{run-copied, run-stands}
+use Rattle.commit.proofs.RowsMade.{RowMade, row-for, rows-bucketed, rows-bytes}
+use Rattle.commit.proofs.RunCopied.{run-copied, run-stands}
 
 -- as many buckets as entries
 pub buckets-length : (j : Job) (r : Run) → length (runBuckets j r) ≡ length (runDraws j r)

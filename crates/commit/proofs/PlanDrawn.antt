@@ -20,7 +20,7 @@ use Rattle.incremental_progress.proofs.PlanBytes.{commit-length, commit-fits}
 use Rattle.commit_durable.specs.Tables.{jobOf}
 use Rattle.commit_plan.specs.Plans.{CommitPlanned}
 use Rattle.commit_plan.specs.declared.plan.ImagePlan.{ImagePlan}
-use Rattle.commit.proofs.Read.{entries-full}
+use Rattle.commit.proofs.ReadWithin.{entries-full}
 
 module _ {given record′ ids rows runs : List ℕ} {q : ImagePlan} (p : CommitPlanned given record′ ids rows runs q) where
   -- the views that fill the entries, the ids that are left, and the image that they make

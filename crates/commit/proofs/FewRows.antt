@@ -27,8 +27,8 @@ use Rattle.incremental_progress.proofs.Filling.{source}
 use Rattle.commit_durable.specs.Tables.{jobOf}
 use Rattle.commit_plan.specs.Plans.{CommitPlanned}
 use Rattle.commit_plan.specs.declared.plan.ImagePlan.{ImagePlan}
-use Rattle.commit.proofs.Read.{image-read, parts-read}
-use Rattle.commit.proofs.Least.{entries-least}
+use Rattle.commit.proofs.ReadWithin.{image-read, parts-read}
+use Rattle.commit.proofs.LeastBytes.{entries-least}
 
 abbrev SourceWithin : Entry → Type 0
 SourceWithin e = ViewWithin (source e)
@@ -61,7 +61,9 @@ module _ (j : Job) (r : Run) (w : All ViewWithin (r .views)) where
   unfolding runDraws viewsLength
   run-least = go (eqb (r .id) (j .destination)) (has (r .id) (j .sources))
     where
-      go : (d m : Bool) → 60 * length (pick (d || m) es []) ≤ pick d (length (entryBytes (pick (d || m) es [])) + length (entryBytes outs)) (pick m (length (entryBytes (pick (d || m) es []))) (length (viewBytes (r .views))))
+      go : (d m : Bool)
+          → 60 * length (pick (d || m) es [])
+          ≤ pick d (length (entryBytes (pick (d || m) es [])) + length (entryBytes outs)) (pick m (length (entryBytes (pick (d || m) es []))) (length (viewBytes (r .views))))
       go true m = omega (arith, own-least)
       go false true = own-least
       go false false = omega arith

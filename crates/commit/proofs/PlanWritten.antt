@@ -18,11 +18,11 @@ use Rattle.commit_plan.specs.Plans.{drawBuckets}
 use Rattle.commit_plan.specs.declared.plan.ImagePlan.{ImagePlan}
 use Rattle.commit_write.specs.Runs.{plannedImage, RunsFit, Writable}
 use Rattle.commit_write.proofs.Made.{image-made}
-use Rattle.commit.proofs.Rows.{rows-inside}
+use Rattle.commit.proofs.RowsMade.{rows-inside}
 use Rattle.commit.proofs.OneRun.{outputs-bucketed}
 use Rattle.commit.proofs.AllRuns.{runs-made, runs-fit}
-use Rattle.commit.proofs.Filled.{views, new, new-length}
-use Rattle.commit.proofs.Planned.{Accepted, countsOf, own, tableRows, runRows, runs-held, rows-long, all-made, own-length, outputs-made, own-made, outputs-many}
+use Rattle.commit.proofs.PlanDrawn.{views, new, new-length}
+use Rattle.commit.proofs.PlanRows.{Accepted, countsOf, own, tableRows, runRows, runs-held, rows-long, all-made, own-length, outputs-made, own-made, outputs-many}
 
 module _ {given record′ ids rows runs : List ℕ} {q : ImagePlan} (a : Accepted given record′ ids rows runs q) where
   pub planned-is-new : plannedImage given record′ ids runs rows (countsOf given q) ≡ image .write (new (a .planned))

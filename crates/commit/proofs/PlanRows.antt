@@ -31,11 +31,11 @@ use Rattle.commit_write.specs.declared.runs.Counts.{Counts}
 use Rattle.commit_write.proofs.Placed.{outputsPlaced}
 use Rattle.commit.proofs.EachLaws.{each-length, each-front, each-back, each-map}
 use Rattle.commit.proofs.Places.{placed-append, placed-length, output-buckets-length, outputs-placed, intervals-few}
-use Rattle.commit.proofs.Rows.{RowMade, row-made}
+use Rattle.commit.proofs.RowsMade.{RowMade, row-made}
 use Rattle.commit.proofs.OneRun.{OutputsMade}
 use Rattle.commit.proofs.AllRuns.{planned-length}
-use Rattle.commit.proofs.Read.{parts-few}
-use Rattle.commit.proofs.Filled.{views, left, views-drawn}
+use Rattle.commit.proofs.ReadWithin.{parts-few}
+use Rattle.commit.proofs.PlanDrawn.{views, left, views-drawn}
 
 -- the ids were enough, the rows had room, and each run of the new image is within the ceiling
 pub record Accepted (given record′ ids rows runs : List ℕ) (q : ImagePlan) : Type 0 where
@@ -89,7 +89,7 @@ module _ {given record′ ids rows runs : List ℕ} {q : ImagePlan} (a : Accepte
   placed-count : length (placed (drawBuckets j i) vs) ≡ length vs
   placed-count =
       placed-length (drawBuckets j i) vs
-      (a .planned .planned .many ∙ sym (filled))
+      (a .planned .planned .many ∙ sym filled)
 
   pub rows-count : q .outputs + planned runRows ≡ length (placed (drawBuckets j i) vs)
   rows-count = omega (arith, a .planned .outputs, planned-length given j i runRows runs-held, placed-count, views-length)
