@@ -1,0 +1,12 @@
+pub mod EachLaws
+pub mod RunCopied
+pub mod Places
+pub mod RowsMade
+pub mod OneRun
+pub mod AllRuns
+pub mod ReadWithin
+pub mod PlanDrawn
+pub mod PlanRows
+pub mod PlanWritten
+pub mod LeastBytes
+pub mod FewRows

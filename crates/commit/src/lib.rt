@@ -1,0 +1,1 @@
+// A commit: read once, planned once, written once.
