@@ -16,7 +16,7 @@ use Rattle.records.specs.Values.{View, Run, Image, Job}
 use Rattle.records.proofs.Within.{ViewWithin}
 use Rattle.manifest.specs.Ranges.{effective}
 use Rattle.manifest.specs.Checks.{all, has}
-use Rattle.manifest.specs.Index.{imageOf}
+use Rattle.commit_index.specs.Index.{imageOf}
 use Rattle.incremental_progress.specs.Views.{sameRange}
 use Rattle.incremental_progress.specs.Entries.{Entry, whole, cut, pieceEntry, partEntries}
 use Rattle.incremental_progress.specs.Gaps.{pieces, gapEntries}

@@ -10,7 +10,7 @@ use Rattle.base.specs.Bytes.{Bytes}
 use Rattle.base.specs.Pick.{pick}
 use Rattle.records.specs.Values.{View, Image}
 use Rattle.records.specs.Layouts.{image}
-use Rattle.manifest.specs.Index.{imageOf}
+use Rattle.commit_index.specs.Index.{imageOf}
 use Rattle.incremental_progress.specs.Draws.{Ten, got, used-up, supply, fillAll}
 use Rattle.incremental_progress.specs.Gaps.{gapCommit}
 use Rattle.incremental_progress.specs.Commit.{resultFits}

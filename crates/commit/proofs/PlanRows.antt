@@ -10,7 +10,7 @@ use lib.Seq.{length-take-le}
 use Rattle.base.specs.Bytes.{Bytes}
 use Rattle.base.specs.Rows.{Each, rowsIn}
 use Rattle.records.specs.Values.{View, Image, Job}
-use Rattle.manifest.specs.Index.{imageOf}
+use Rattle.commit_index.specs.Index.{imageOf}
 use Rattle.incremental_progress.specs.Parts.{intervals}
 use Rattle.incremental_progress.specs.Entries.{partEntries}
 use Rattle.incremental_progress.specs.Draws.{supply}

@@ -9,7 +9,7 @@ use lib.ListN.{length, take, drop}
 use borrow.Author.Tests.{leb-true}
 use Rattle.base.specs.Lists.{All, All-map}
 use Rattle.records.specs.Layouts.{image}
-use Rattle.manifest.specs.Index.{imageOf}
+use Rattle.commit_index.specs.Index.{imageOf}
 use Rattle.incremental_progress.specs.Gaps.{placed}
 use Rattle.incremental_progress.specs.Plans.{newImage, viewCount}
 use Rattle.incremental_progress.proofs.Checks.{all-each}

@@ -13,7 +13,7 @@ use Rattle.records.specs.Values.{Image, Job}
 use Rattle.records.specs.Layouts.{image, job}
 use Rattle.records.proofs.RecordLayouts.{image-layout, job-layout}
 use Rattle.records.proofs.Within.{ImageWithin, image-parts, PartWithin, job-parts}
-use Rattle.manifest.specs.Index.{imageOf}
+use Rattle.commit_index.specs.Index.{imageOf}
 use Rattle.incremental_progress.specs.Plans.{drawEntries}
 use Rattle.incremental_progress.proofs.Filling.{Full}
 use Rattle.incremental_progress.proofs.Follow.{full-parts}

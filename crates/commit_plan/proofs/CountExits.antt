@@ -14,7 +14,7 @@ use Rattle.records.specs.Form.{writeMany}
 use Rattle.records.specs.Values.{View, Run, Job}
 use Rattle.records.specs.Layouts.{view}
 use Rattle.manifest.specs.Checks.{has}
-use Rattle.manifest.specs.declared.runs.IndexedRun.{IndexedRun}
+use Rattle.commit_index.specs.declared.runs.IndexedRun.{IndexedRun}
 use Rattle.incremental_progress.specs.Entries.{Entry, entryView, partEntries}
 use Rattle.incremental_progress.specs.Gaps.{gapEntries}
 use Rattle.incremental_progress.specs.Plans.{byKind, isSourceOf, runDraws, viewCount, viewsLength, viewBytes, entryBytes}

@@ -15,7 +15,7 @@ use Rattle.base.specs.Splice.{splice}
 use Rattle.records.specs.Values.{View, Run, Job}
 use Rattle.records.specs.Spans.{idsIn}
 use Rattle.manifest.specs.Checks.{has}
-use Rattle.manifest.specs.declared.runs.IndexedRun.{IndexedRun}
+use Rattle.commit_index.specs.declared.runs.IndexedRun.{IndexedRun}
 use Rattle.incremental_progress.specs.Gaps.{gapEntries, runGaps}
 use Rattle.incremental_progress.specs.Plans.{isSourceOf, runDraws}
 use Rattle.incremental_progress.specs.Plans as plans

@@ -21,9 +21,9 @@ use Rattle.records.specs.Values.{View, Run, Image, Job}
 use Rattle.records.specs.Layouts.{view, run}
 use Rattle.records.proofs.RecordLayouts.{run-layout}
 use Rattle.manifest.specs.Checks.{all, tablePasses, ascend, starts, imageChecks}
-use Rattle.manifest.specs.Index.{imageOf, IndexHold, IndexedFound}
-use Rattle.manifest.specs.Index as manifest
-use Rattle.manifest.specs.declared.runs.IndexedRun.{IndexedRun}
+use Rattle.commit_index.specs.Index.{imageOf, IndexHold, IndexedFound}
+use Rattle.commit_index.specs.Index as index
+use Rattle.commit_index.specs.declared.runs.IndexedRun.{IndexedRun}
 use Rattle.incremental_progress.specs.Entries.{Entry, partEntries}
 use Rattle.incremental_progress.specs.Plans.{runDraws, drawEntries, viewCount, viewsLength, runsLength, imageLength, viewBytes, entryBytes}
 use Rattle.incremental_progress.specs.Plans as plans

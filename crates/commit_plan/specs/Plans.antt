@@ -14,8 +14,8 @@ use Rattle.records.specs.Values.{Run, Image, Job}
 use Rattle.records.specs.Layouts.{run}
 use Rattle.records.specs.Spans.{idsIn}
 use Rattle.manifest.specs.Checks.{all, has, imageChecks}
-use Rattle.manifest.specs.Index.{imageOf}
-use Rattle.manifest.specs.declared.runs.IndexedRun.{IndexedRun}
+use Rattle.commit_index.specs.Index.{imageOf}
+use Rattle.commit_index.specs.declared.runs.IndexedRun.{IndexedRun}
 use Rattle.incremental_progress.specs.Entries.{partEntries}
 use Rattle.incremental_progress.specs.Gaps.{runGaps}
 use Rattle.incremental_progress.specs.Plans.{isSourceOf, byKind, runDraws, drawEntries, viewCount, imageLength}

@@ -1,16 +1,16 @@
 // The runs of the image planned, after the outputs: what is left of each source, and how large the new image is.
 use crate::runs::plan_run;
 use commit_entries::Plan;
+use commit_index::IndexedRun;
 use commit_rows::RunKind;
 use commit_rows::RunRow;
-use manifest::IndexedRun;
 use records::RunSpan;
 ghost use mathlib.Core.Path.{_≡_};
 ghost use mathlib.Core.Bool.{_&&_};
 ghost use Prim.Native.Nat.{_≤_, _+_, _*_};
 ghost use lib.Dec.{leb};
 ghost use lib.ListN.{length};
-ghost use Rattle.manifest.specs.Index.{IndexHold};
+ghost use Rattle.commit_index.specs.Index.{IndexHold};
 ghost use Rattle.commit_durable.specs.Tables.{jobOf};
 ghost use Rattle.commit_entries.specs.Planned.{PlanReady};
 ghost use Rattle.commit_plan.specs.Runs.{RunReady};
@@ -180,7 +180,7 @@ pub fn plan_runs<'a>(
         fits: true,
     };
     while k < head.runs {
-        let run = manifest::indexed_run(image, index, head.runs, k);
+        let run = commit_index::indexed_run(image, index, head.runs, k);
         let p = a.plan;
         let one = plan_one(image, job, ids, gaps, rows, run, head, p);
         a = count_run(runs, k, run, one, a, outputs);

@@ -2,7 +2,6 @@ pub mod ViewRanges
 pub mod Steps
 pub mod RangeExits
 pub mod CheckExits
-pub mod RunRows
 pub mod ImageExits
 pub mod Given
 pub mod ImageLaws
@@ -11,5 +10,4 @@ pub mod WholeExits
 pub mod IndexExits
 pub mod AnchorExits
 pub mod Examples
-pub mod RunExits
 pub mod ReadKeys

@@ -2,6 +2,5 @@ pub mod Ranges
 pub mod Checks
 pub mod Faults
 pub mod Spans
-pub mod Index
 pub mod Laws
 pub mod Examples

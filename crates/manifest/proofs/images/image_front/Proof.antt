@@ -14,30 +14,16 @@ enum-known-k c = search (needs, image-exits)
 enum-known-n : tie.Need-enum-known-n
 enum-known-n c = search (needs, image-exits)
 
-runs-few-requires : tie.Need-runs-few-requires
-runs-few-requires c κs = search (needs, image-exits)
+runs-judged-requires : tie.Need-runs-judged-requires
+runs-judged-requires c κs = search (needs, image-exits)
 
 returns : tie.Need-returns
 returns c = search (needs, image-exits)
 
-runs-many-requires : tie.Need-runs-many-requires
-runs-many-requires c κs = search (needs, image-exits)
-
 returns-2 : tie.Need-returns-2
 returns-2 c = search (needs, image-exits)
-
-returns-3 : tie.Need-returns-3
-returns-3 c = search (needs, image-exits)
 
 pub image-front-spec : {M : Type 1} → statement M
 image-front-spec =
     tie.close
-    (tie.spec
-    count-at-requires
-    enum-known-k
-    enum-known-n
-    runs-few-requires
-    returns
-    runs-many-requires
-    returns-2
-    returns-3)
+    (tie.spec count-at-requires enum-known-k enum-known-n runs-judged-requires returns returns-2)

@@ -1,9 +1,9 @@
--- `manifest::has_run` meets its contract.
+-- `commit_index::has_run` meets its contract.
 -- Assumes nothing.
-use Rattle.manifest.proofs.RunExits.{has-exits}
+use Rattle.commit_index.proofs.RunExits.{has-exits}
 use borrow.Author.Needs.{needs}
-use Rattle.manifest.proofs.runs.has_run.Statement.{statement}
-use Rattle.manifest.proofs.runs.has_run.Tie as tie
+use Rattle.commit_index.proofs.runs.has_run.Statement.{statement}
+use Rattle.commit_index.proofs.runs.has_run.Tie as tie
 
 id-among-requires : tie.Need-id-among-requires
 id-among-requires c κs = search (needs, has-exits)

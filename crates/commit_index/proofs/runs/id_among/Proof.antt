@@ -1,10 +1,10 @@
--- `manifest::id_among` meets its contract.
+-- `commit_index::id_among` meets its contract.
 -- Assumes nothing.
-use Rattle.manifest.proofs.ImageExits.{among-exits, NotYet}
+use Rattle.commit_index.proofs.ImageExits.{among-exits, NotYet}
 use Prim.Native.Nat.{_-_}
 use borrow.Author.Needs.{needs}
-use Rattle.manifest.proofs.runs.id_among.Statement.{statement}
-use Rattle.manifest.proofs.runs.id_among.Tie as tie
+use Rattle.commit_index.proofs.runs.id_among.Statement.{statement}
+use Rattle.commit_index.proofs.runs.id_among.Tie as tie
 
 abbrev Inv-loop : tie.InvT-loop
 Inv-loop index n id i₀ i = NotYet index n id i

@@ -5,8 +5,8 @@ ghost use Prim.Native.Nat.{_≤_, _<_, _+_, _*_};
 ghost use lib.ListN.{length};
 ghost use Rattle.base.specs.Rows.{rowAt};
 ghost use Rattle.base.specs.Splice.{splice};
 ghost use Rattle.manifest.specs.Checks.{has};
-ghost use Rattle.manifest.specs.Index.{indexedOf, indexedNumbers, rowIds, imageIds, IndexHold, IndexedFound};
+ghost use Rattle.commit_index.specs.Index.{indexedOf, indexedNumbers, rowIds, imageIds, IndexHold, IndexedFound};
 
 // A run's id, how many views it has, and the places of the first and past the last.
 pub struct IndexedRun {

@@ -1,9 +1,9 @@
--- `manifest::image_indexed` meets its contract.
+-- `commit_index::image_indexed` meets its contract.
 -- Assumes nothing.
-use Rattle.manifest.proofs.RunExits.{image-indexed-exits}
+use Rattle.commit_index.proofs.RunExits.{image-indexed-exits}
 use borrow.Author.Needs.{needs}
-use Rattle.manifest.proofs.images.image_indexed.Statement.{statement}
-use Rattle.manifest.proofs.images.image_indexed.Tie as tie
+use Rattle.commit_index.proofs.image_indexed.Statement.{statement}
+use Rattle.commit_index.proofs.image_indexed.Tie as tie
 
 count-at-requires : tie.Need-count-at-requires
 count-at-requires c κs = search (needs, image-indexed-exits)

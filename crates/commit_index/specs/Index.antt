@@ -12,16 +12,16 @@ use Rattle.records.specs.Form.{readMany}
 use Rattle.records.specs.Found.{valuesOf}
 use Rattle.records.specs.Values.{Run, Image}
 use Rattle.records.specs.Layouts.{view, run, image}
 use Rattle.manifest.specs.Checks.{imageChecks}
 use Rattle.manifest.specs.Faults.{faultOf, viewsChecks}
 use Rattle.manifest.specs.Spans.{faults, JudgedFound}
 use Rattle.manifest.specs.declared.images.Judged.{Judged}
 use Rattle.manifest.specs.declared.images.Judged.the-variants.{At, Stop}
-use Rattle.manifest.specs.declared.images.RunJudged.{RunJudged}
-use Rattle.manifest.specs.declared.images.RunJudged.the-variants.{At as RunAt, Stop as RunStop}
-use Rattle.manifest.specs.declared.images.Indexed.{Indexed}
-use Rattle.manifest.specs.declared.images.Indexed.the-variants.{At as IndexedAt, Stop as IndexedStop}
-use Rattle.manifest.specs.declared.runs.IndexedRun.{IndexedRun}
+use Rattle.commit_index.specs.declared.RunJudged.{RunJudged}
+use Rattle.commit_index.specs.declared.RunJudged.the-variants.{At as RunAt, Stop as RunStop}
+use Rattle.commit_index.specs.declared.Indexed.{Indexed}
+use Rattle.commit_index.specs.declared.Indexed.the-variants.{At as IndexedAt, Stop as IndexedStop}
+use Rattle.commit_index.specs.declared.runs.IndexedRun.{IndexedRun}
 
 -- ---- the image that was read
 abbrev pub imageOf : List ℕ → Image

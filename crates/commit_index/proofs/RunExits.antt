@@ -20,15 +20,15 @@ use Rattle.records.specs.declared.runs.CountRead.{CountRead}
 use Rattle.records.specs.declared.runs.CountRead.the-variants.{At as CountAt, Stop as CountStop}
 use Rattle.records.proofs.Forms.{readMany-length}
 use Rattle.records.proofs.HeadExits.{image-is}
 use Rattle.manifest.specs.Checks.{imageChecks, has}
 use Rattle.manifest.specs.Spans.{judged}
-use Rattle.manifest.specs.Index.{imageOf, imageIds, indexedOf, rowIds, RunHeld, RunIs, IndexHold, IndexedFound, RunsIndexed, ImageIndexed}
+use Rattle.commit_index.specs.Index.{imageOf, imageIds, indexedOf, rowIds, RunHeld, RunIs, IndexHold, IndexedFound, RunsIndexed, ImageIndexed}
 use Rattle.manifest.specs.declared.images.Judged.{Judged}
 use Rattle.manifest.specs.declared.images.Judged.the-variants.{At, Stop}
-use Rattle.manifest.specs.declared.images.Indexed.the-variants.{At as IndexedAt, Stop as IndexedStop}
-use Rattle.manifest.specs.declared.runs.IndexedRun.{IndexedRun}
-use Rattle.manifest.proofs.RunRows.{held-ids}
-use Rattle.manifest.proofs.ImageExits.{Judge, judge, judge-stop, count-most, first-place}
+use Rattle.commit_index.specs.declared.Indexed.the-variants.{At as IndexedAt, Stop as IndexedStop}
+use Rattle.commit_index.specs.declared.runs.IndexedRun.{IndexedRun}
+use Rattle.commit_index.proofs.RunRows.{held-ids}
+use Rattle.commit_index.proofs.ImageExits.{Judge, judge, judge-stop, count-most, first-place}
 
 -- ---- image_indexed
 pub no-image : (s d : List ℕ) {r : CountRead} {k : ℕ} → CountFound s (upTo 1 64 .read (drop 0 s)) r → r ≡ CountStop k → ImageIndexed s d d (IndexedStop k)

@@ -11,8 +11,8 @@ use mir.Syntax.{w64}
 use Rattle.base.specs.Rows.{rowsIn, rowAt, row-number, length-rows, Each, RowsHold}
 use Rattle.base.specs.Splice.{splice, splice-splice, length-splice, set-is-splice}
 use Rattle.records.specs.Values.{Run}
-use Rattle.manifest.specs.Index.{indexedOf, indexedNumbers, rowIds, RunIs}
-use Rattle.manifest.specs.declared.runs.IndexedRun.{IndexedRun}
+use Rattle.commit_index.specs.Index.{indexedOf, indexedNumbers, rowIds, RunIs}
+use Rattle.commit_index.specs.declared.runs.IndexedRun.{IndexedRun}
 
 -- ---- put_run and run_row
 one-more : (t u : List ℕ) (at : ℕ) (xs : List ℕ) (b to : ℕ) → u ≡ splice t at xs → to ≡ at + length xs → at + length xs + 1 ≤ length t → set u to b ≡ splice t at (xs ++ (b ∷ []))

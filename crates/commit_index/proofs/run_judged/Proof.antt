@@ -1,9 +1,9 @@
--- `manifest::run_judged` meets its contract.
+-- `commit_index::run_judged` meets its contract.
 -- Assumes nothing.
-use Rattle.manifest.proofs.ImageExits.{run-exits}
+use Rattle.commit_index.proofs.ImageExits.{run-exits}
 use borrow.Author.Needs.{needs}
-use Rattle.manifest.proofs.images.run_judged.Statement.{statement}
-use Rattle.manifest.proofs.images.run_judged.Tie as tie
+use Rattle.commit_index.proofs.run_judged.Statement.{statement}
+use Rattle.commit_index.proofs.run_judged.Tie as tie
 
 run-at-requires : tie.Need-run-at-requires
 run-at-requires c κs = search (needs, run-exits)

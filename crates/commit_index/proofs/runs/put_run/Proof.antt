@@ -1,9 +1,9 @@
--- `manifest::put_run` meets its contract.
+-- `commit_index::put_run` meets its contract.
 -- Assumes nothing.
-use Rattle.manifest.proofs.RunRows.{row-exits}
+use Rattle.commit_index.proofs.RunRows.{row-exits}
 use borrow.Author.Needs.{needs}
-use Rattle.manifest.proofs.runs.put_run.Statement.{statement}
-use Rattle.manifest.proofs.runs.put_run.Tie as tie
+use Rattle.commit_index.proofs.runs.put_run.Statement.{statement}
+use Rattle.commit_index.proofs.runs.put_run.Tie as tie
 
 mul-at : tie.Need-mul-at
 mul-at c = search (needs, row-exits)

@@ -1,10 +1,10 @@
--- `manifest::runs_indexed` meets its contract.
+-- `commit_index::runs_indexed` meets its contract.
 -- Assumes nothing.
-use Rattle.manifest.proofs.ImageExits.{runs-exits, RunsSeen}
+use Rattle.commit_index.proofs.ImageExits.{runs-exits, RunsSeen}
 use Prim.Native.Nat.{_-_}
 use borrow.Author.Needs.{needs}
-use Rattle.manifest.proofs.images.runs_indexed.Statement.{statement}
-use Rattle.manifest.proofs.images.runs_indexed.Tie as tie
+use Rattle.commit_index.proofs.runs_indexed.Statement.{statement}
+use Rattle.commit_index.proofs.runs_indexed.Tie as tie
 
 abbrev Inv-loop : tie.InvT-loop
 Inv-loop s from n index₀ seen₀ at₀ fault₀ index seen at fault = RunsSeen s from n index₀ index seen at fault

@@ -1,9 +1,9 @@
--- `manifest::run_row` meets its contract.
+-- `commit_index::run_row` meets its contract.
 -- Assumes nothing.
-use Rattle.manifest.proofs.RunRows.{row-exits}
+use Rattle.commit_index.proofs.RunRows.{row-exits}
 use borrow.Author.Needs.{needs}
-use Rattle.manifest.proofs.runs.run_row.Statement.{statement}
-use Rattle.manifest.proofs.runs.run_row.Tie as tie
+use Rattle.commit_index.proofs.runs.run_row.Statement.{statement}
+use Rattle.commit_index.proofs.runs.run_row.Tie as tie
 
 mul-at : tie.Need-mul-at
 mul-at c = search (needs, row-exits)

@@ -1,9 +1,9 @@
--- `manifest::indexed_run` meets its contract.
+-- `commit_index::indexed_run` meets its contract.
 -- Assumes nothing.
-use Rattle.manifest.proofs.RunExits.{indexed-exits}
+use Rattle.commit_index.proofs.RunExits.{indexed-exits}
 use borrow.Author.Needs.{needs}
-use Rattle.manifest.proofs.runs.indexed_run.Statement.{statement}
-use Rattle.manifest.proofs.runs.indexed_run.Tie as tie
+use Rattle.commit_index.proofs.runs.indexed_run.Statement.{statement}
+use Rattle.commit_index.proofs.runs.indexed_run.Tie as tie
 
 run-row-requires : tie.Need-run-row-requires
 run-row-requires c κs = search (needs, indexed-exits)

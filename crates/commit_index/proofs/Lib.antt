@@ -1,0 +1,3 @@
+pub mod RunRows
+pub mod ImageExits
+pub mod RunExits
