@@ -25,7 +25,7 @@ pub const QUOTIENTS: [Quotient; 2] = [
     },
 ];
 
-pub const AIMS: [Aim; 4] = [OF_CALL, OF_CALL_LONG, OF_CHECK, OF_CHECK_PARTS];
+pub const AIMS: [Aim; 5] = [OF_CALL, OF_CALL_LONG, OF_CHECK, OF_CHECK_64, OF_CHECK_SOME];
 const OF_CALL: Aim = Aim {
     what: "of the Rust's call alone",
     side: CALL,
@@ -41,8 +41,13 @@ const OF_CHECK: Aim = Aim {
     side: CHECK,
     most: 8.0,
 };
-const OF_CHECK_PARTS: Aim = Aim {
-    what: "times `check_image`, more parts",
+const OF_CHECK_64: Aim = Aim {
+    what: "times `check_image`, 64 parts",
+    side: CHECK,
+    most: 10.0,
+};
+const OF_CHECK_SOME: Aim = Aim {
+    what: "times `check_image`, 2 to 63 parts (no aim of their own: that of 64)",
     side: CHECK,
     most: 10.0,
 };
@@ -69,7 +74,8 @@ fn aims(prepared: &Prepared) -> Vec<Aim> {
     };
     let of_check = match prepared.job.parts.len() {
         1 => OF_CHECK,
-        _ => OF_CHECK_PARTS,
+        64 => OF_CHECK_64,
+        _ => OF_CHECK_SOME,
     };
     vec![of_call, of_check]
 }

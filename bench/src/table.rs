@@ -218,7 +218,10 @@ pub fn print_aims(aims: &[Aim], rows: &[Row]) {
         cases.retain(|(quotient, _)| *quotient > aim.most);
         cases.sort_by(|a, b| b.0.total_cmp(&a.0));
         let (most, what, missed) = (aim.most, aim.what, cases.len());
-        println!("\nAt most {most} {what}: {missed} of {all} cases miss it.\n");
+        println!("\nAt most {most} {what}: {missed} of {all} cases miss it.");
+        if missed > 0 {
+            println!();
+        }
         for (quotient, row) in cases {
             println!("- {quotient:.2} `{}`, {}", row.call, row.case());
         }
