@@ -14,6 +14,7 @@ pub struct Prepared {
     pub name: String,
     /// The size that the image was made for.
     pub size: usize,
+    pub keys: Keys,
     pub runs: Vec<Run>,
     pub job: Job,
 }
@@ -137,6 +138,7 @@ impl Plan {
                 Some(Prepared {
                     name: self.name(),
                     size,
+                    keys: self.shape.keys,
                     job: self.job(&runs),
                     runs,
                 })
@@ -180,6 +182,7 @@ fn unpublished(size: usize) -> Prepared {
     Prepared {
         name: name.into(),
         size,
+        keys: shape.keys,
         runs,
         job,
     }

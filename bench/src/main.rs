@@ -48,12 +48,12 @@ fn main() {
 
     table::print("Keys and ranges", &["Rust, keys lent"], &rows);
     table::print("Images", &[], &images);
-    table::print("Commits", &["decode", "call", "encode"], &commits);
+    table::print_divided("Commits", &commits::MORE, &commits::QUOTIENTS, &commits);
+    table::print_aims(&commits::AIMS, &commits);
     table::print("Lookups", &["decode", "call"], &lookups);
     table::print_sides(
         "An index, and an image of as many keys: both ours",
         ["index", "image", "index / image"],
-        &[],
         &against,
     );
     table::print("Visible sizes", &["decode", "call"], &sizes);

@@ -12,11 +12,36 @@ pub struct Row {
     rust: f64,
     copy: f64,
     more: Vec<f64>,
+    aims: Vec<Aim>,
+}
+
+/// Ours divided by the further side at a place, as a column.
+pub struct Quotient {
+    pub name: &'static str,
+    pub side: usize,
+}
+
+/// Ours divided by the further side at a place is to be at most so much.
+#[derive(Clone, Copy, PartialEq)]
+pub struct Aim {
+    pub what: &'static str,
+    pub side: usize,
+    pub most: f64,
 }
 
 impl Row {
     pub fn ratio(&self) -> f64 {
         self.ours / self.rust
+    }
+
+    pub fn with_aims(mut self, aims: Vec<Aim>) -> Row {
+        self.aims = aims;
+        self
+    }
+
+    /// Ours divided by a further side.
+    fn divided(&self, side: usize) -> f64 {
+        self.ours / self.more[side]
     }
 
     /// The lesser of the times of the same case in two passes.
@@ -85,6 +110,7 @@ impl Case<'_> {
             rust: a_call(1),
             copy: a_call(2),
             more: (3..least.len()).map(a_call).collect(),
+            aims: Vec::new(),
         };
         eprintln!("{:.2} {name}", row.ratio());
         Some(row)
@@ -99,17 +125,30 @@ fn ns(time: f64) -> String {
     }
 }
 
+/// The first two sides and their quotient.
+const SIDES: [&str; 3] = ["ours", "Rust", "ours / Rust"];
+
 /// `more` names the further sides.
 pub fn print(title: &str, more: &[&str], rows: &[Row]) {
-    print_sides(title, ["ours", "Rust", "ours / Rust"], more, rows);
+    print_all(title, SIDES, more, &[], rows);
 }
 
 /// The first two sides and their quotient have these names.
-pub fn print_sides(title: &str, names: [&str; 3], more: &[&str], rows: &[Row]) {
+pub fn print_sides(title: &str, names: [&str; 3], rows: &[Row]) {
+    print_all(title, names, &[], &[], rows);
+}
+
+/// Beside the further sides, ours divided by some of them.
+pub fn print_divided(title: &str, more: &[&str], quotients: &[Quotient], rows: &[Row]) {
+    print_all(title, SIDES, more, quotients, rows);
+}
+
+fn print_all(title: &str, names: [&str; 3], more: &[&str], quotients: &[Quotient], rows: &[Row]) {
     println!("\n## {title}\n");
     let [first, second, quotient] = names;
     let columns = ["call", "case", "bytes", first, second, quotient, "copy"];
-    let columns = [&columns[..], more].concat();
+    let last: Vec<&str> = quotients.iter().map(|quotient| quotient.name).collect();
+    let columns = [&columns[..], more, &last].concat();
     println!("| {} |", columns.join(" | "));
     println!("|---|---|{}", "--:|".repeat(columns.len() - 2));
     for row in rows {
@@ -124,6 +163,8 @@ pub fn print_sides(title: &str, names: [&str; 3], more: &[&str], rows: &[Row]) {
         ];
         cells
             .extend((0..more.len()).map(|place| row.more.get(place).map_or("".into(), |t| ns(*t))));
+        let divided = |quotient: &Quotient| format!("{:.2}", row.divided(quotient.side));
+        cells.extend(quotients.iter().map(divided));
         println!("| {} |", cells.join(" | "));
     }
 }
@@ -163,6 +204,27 @@ pub fn print_by_size(rows: &[Row], sizes: &[usize]) {
         };
         let (ours, rust) = (cells(Row::ours_a_byte), cells(Row::rust_a_byte));
         println!("| `{call}` | {shape} | {ours} | {rust} | {growth} |");
+    }
+}
+
+/// How many cases miss each aim, and which, the worst first.
+pub fn print_aims(aims: &[Aim], rows: &[Row]) {
+    println!("\n### Aims");
+    for aim in aims {
+        let with_aim = rows.iter().filter(|row| row.aims.contains(aim));
+        let mut cases: Vec<(f64, &Row)> =
+            with_aim.map(|row| (row.divided(aim.side), row)).collect();
+        let all = cases.len();
+        cases.retain(|(quotient, _)| *quotient > aim.most);
+        cases.sort_by(|a, b| b.0.total_cmp(&a.0));
+        let (most, what, missed) = (aim.most, aim.what, cases.len());
+        println!("\nAt most {most} {what}: {missed} of {all} cases miss it.");
+        if missed > 0 {
+            println!();
+        }
+        for (quotient, row) in cases {
+            println!("- {quotient:.2} `{}`, {}", row.call, row.case());
+        }
     }
 }
 
