@@ -10,7 +10,9 @@ use lib.ListN.{length, getD, take, drop, set, length-set}
 use borrow.Author.Needs.{length-unmapped}
 use mir.Val.{Fits}
 use mir.Syntax.{w64}
+use Rattle.key.specs.Order.{cmpKey, isEqual}
 use Rattle.key.specs.Word.{WordAt}
+use Rattle.key.specs.declared.Order.{Order}
 use Rattle.records.specs.Values.{Table}
 use Rattle.records.specs.declared.ids.TableId.{TableId}
 use Rattle.incremental_progress.specs.Ids.{sameTableId}
@@ -33,6 +35,10 @@ pub tail-room : (l : List ℕ) → length (map (λ (v : ℕ). v) l) ≡ 16 → 1
 tail-room l e = omega (arith, length-unmapped ℕ l 16 e)
 
 pub ruleset entry-exits = (entry-is, entry-small, head-room, tail-room)
+
+-- ---- same
+pub same-ids : (x y : TableId) {o : Order} → o ≡ cmpKey (x .0) (y .0) → {t : Bool} → t ≡ isEqual o → t ≡ sameTableId x y
+same-ids x y ho ht = rw (ht, ho)
 
 -- ---- keep
 module _ (chain : List ℕ) (k : ℕ) (h : k * 2 + 2 ≤ length chain) where
