@@ -10,3 +10,4 @@ pub mod PlanRows
 pub mod PlanWritten
 pub mod LeastBytes
 pub mod FewRows
+pub mod WriteExits

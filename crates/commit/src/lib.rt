@@ -1,1 +1,4 @@
 // A commit: read once, planned once, written once.
+mod write;
+
+pub use write::finish;

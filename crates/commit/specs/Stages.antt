@@ -1,0 +1,52 @@
+-- A commit's outcome after the checks 1 to 7, as the code goes through it.
+use Prim.Native.Nat.{ℕ, _*_, _≤_}
+use mathlib.Core.Path.{_≡_}
+use mathlib.Core.Bool.{true}
+use mathlib.Core.List.{List}
+use lib.Dec.{T}
+use lib.ListN.{length}
+use Rattle.base.specs.Bytes.{Bytes}
+use Rattle.base.specs.Outcome.{Outcome, check, andThen, writtenTo}
+use Rattle.format.specs.Got.{isGot}
+use Rattle.records.specs.Values.{Image, Job}
+use Rattle.records.specs.Layouts.{image}
+use Rattle.incremental_progress.specs.Draws.{Drawn, supply}
+use Rattle.incremental_progress.specs.Gaps.{gapCommit}
+use Rattle.incremental_progress.specs.Commit.{drawnImage, applied}
+use Rattle.commit_index.specs.Index.{imageOf}
+use Rattle.commit_durable.specs.Tables.{jobOf, jobGaps}
+use Rattle.commit_covered.specs.Covered.{coveredBy}
+use Rattle.commit_plan.specs.Plans.{CommitPlanned}
+use Rattle.commit_plan.specs.declared.plan.ImagePlan.{ImagePlan}
+
+-- from check 14 on, into a buffer of `room` bytes
+unfoldable pub drawnOutcome : Drawn Image → ℕ → Outcome (List ℕ)
+drawnOutcome d room = andThen (drawnImage d) (λ new. writtenTo room (image .write new))
+
+-- of the image and the job that were read
+abbrev pub plannedOutcome : List ℕ → List ℕ → List ℕ → ℕ → Outcome (List ℕ)
+plannedOutcome given record′ ids room = drawnOutcome (gapCommit (jobOf record′) (imageOf given) (supply ids)) room
+
+-- from check 12 on
+abbrev pub coveredOutcome : List ℕ → List ℕ → List ℕ → ℕ → Outcome (List ℕ)
+coveredOutcome given record′ ids room = check 12 (coveredBy (jobGaps record′) (imageOf given) (jobOf record′)) (plannedOutcome given record′ ids room)
+
+-- from check 8 on
+unfoldable pub appliedOutcome : Image → Job → List ℕ → ℕ → Outcome (List ℕ)
+appliedOutcome i j ids room = andThen (applied i j ids) (λ new. writtenTo room (image .write new))
+
+-- ---- a commit that is planned
+-- its rows are all there, unless check 15 refuses it
+pub record Ready (given record′ ids runs rows : List ℕ) (a : ImagePlan) : Type 0 where
+  pub there : T (isGot (image .read given))
+  pub bytes : Bytes given
+  pub job-bytes : Bytes record′
+  pub planned : CommitPlanned given record′ ids rows runs a
+  pub room : a .bytes ≤ 65536 → a .plan .rows * 11 ≤ length rows
+
+-- and passed the checks 14 and 15
+pub record Settled (given record′ ids runs rows : List ℕ) (a : ImagePlan) : Type 0 where
+  pub ready : Ready given record′ ids runs rows a
+  pub enough : a .plan .enough ≡ true
+  pub fits : a .fits ≡ true
+  pub short : a .bytes ≤ 65536
