@@ -4,3 +4,4 @@ pub mod Sizes
 pub mod OutputExits
 pub mod ViewExits
 pub mod ByGaps
+pub mod RunExits

@@ -1,3 +1,4 @@
 pub mod RunRows
 pub mod ImageExits
 pub mod RunExits
+pub mod SourceExits

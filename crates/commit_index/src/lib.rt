@@ -1,5 +1,6 @@
 // The run index: an image read whole, as `manifest` reads it, with a table of its runs, in one pass.
 mod runs;
+mod sources;
 
 use manifest::Judged;
 use manifest::lesser;
@@ -10,6 +11,7 @@ pub use runs::has_run;
 use runs::id_among;
 pub use runs::indexed_run;
 use runs::put_run;
+pub use sources::sources_there;
 ghost use mathlib.Core.Path.{_≡_};
 ghost use mathlib.Core.Bool.{not};
 ghost use Prim.Native.Nat.{_≤_, _*_};
