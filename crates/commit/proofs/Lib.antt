@@ -11,3 +11,4 @@ pub mod PlanWritten
 pub mod LeastBytes
 pub mod FewRows
 pub mod WriteExits
+pub mod StageExits

@@ -12,11 +12,13 @@ use Rattle.records.specs.Values.{Image, Job}
 use Rattle.records.specs.Layouts.{image}
 use Rattle.incremental_progress.specs.Draws.{Drawn, supply}
 use Rattle.incremental_progress.specs.Gaps.{gapCommit}
+use Rattle.incremental_progress.specs.Checks.{destinationIsSource, sourcesThere}
 use Rattle.incremental_progress.specs.Commit.{drawnImage, applied}
+use Rattle.incremental_progress.specs.Laws.{JobPasses}
 use Rattle.commit_index.specs.Index.{imageOf}
 use Rattle.commit_durable.specs.Tables.{jobOf, jobGaps}
 use Rattle.commit_covered.specs.Covered.{coveredBy}
-use Rattle.commit_plan.specs.Plans.{CommitPlanned}
+use Rattle.commit_plan.specs.Plans.{ImagePassed, CommitPlanned}
 use Rattle.commit_plan.specs.declared.plan.ImagePlan.{ImagePlan}
 
 -- from check 14 on, into a buffer of `room` bytes
@@ -34,6 +36,17 @@ coveredOutcome given record′ ids room = check 12 (coveredBy (jobGaps record′
 -- from check 8 on
 unfoldable pub appliedOutcome : Image → Job → List ℕ → ℕ → Outcome (List ℕ)
 appliedOutcome i j ids room = andThen (applied i j ids) (λ new. writtenTo room (image .write new))
+
+-- ---- what the stages lean on
+-- the image passed 5 and 6, the job 4, 5, 8, 10 and 11, and its sources are in the image
+pub record Read (given record′ : List ℕ) : Type 0 where
+  pub there : T (isGot (image .read given))
+  pub passed : ImagePassed given
+  pub small-job : length record′ ≤ 262144
+  pub job-bytes : Bytes record′
+  pub job : JobPasses (jobOf record′)
+  pub destination : destinationIsSource (jobOf record′) ≡ true
+  pub sources : sourcesThere (imageOf given) (jobOf record′) ≡ true
 
 -- ---- a commit that is planned
 -- its rows are all there, unless check 15 refuses it

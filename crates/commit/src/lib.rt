@@ -1,4 +1,5 @@
 // A commit: read once, planned once, written once.
+mod stages;
 mod write;
 
-pub use write::finish;
+pub use stages::plan_image;

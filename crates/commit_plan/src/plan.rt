@@ -170,6 +170,7 @@ pub fn plan_runs<'a>(
     requires { ⌜ IndexHold (now image) (head .runs) (now index) ⌝ ∗ ⌜ ImagePassed (now image) ⌝ ∗ ⌜ HeadHeld (now job) head ⌝ ∗ ⌜ GapsReady (now job) (now gaps) head ⌝ }
     requires { ⌜ OutputsPlanned (now image) (now job) (now ids) (now rows) (head .outputs) ⌝ ∗ ⌜ 384 ≤ length (now runs) ⌝ }
     ensures { λ r. ⌜ CommitPlanned (now (image .entry)) (now (job .entry)) (now (ids .entry)) (now (rows .exit)) (now (runs .exit)) r ⌝ }
+    ensures { λ _. ⌜ length (now (rows .exit)) ≡ length (now (rows .entry)) ⌝ }
 {
     let outputs = head.outputs;
     let mut k = 0;
