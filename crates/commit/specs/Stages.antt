@@ -1,25 +1,27 @@
 -- A commit's outcome after the checks 1 to 7, as the code goes through it.
-use Prim.Native.Nat.{ℕ, _*_, _≤_}
+use Prim.Native.Nat.{ℕ, _+_, _*_, _≤_}
 use mathlib.Core.Path.{_≡_}
 use mathlib.Core.Bool.{true}
 use mathlib.Core.List.{List}
 use lib.Dec.{T}
-use lib.ListN.{length}
+use lib.ListN.{length, drop}
 use Rattle.base.specs.Bytes.{Bytes}
 use Rattle.base.specs.Outcome.{Outcome, check, andThen, writtenTo}
 use Rattle.format.specs.Got.{isGot}
 use Rattle.records.specs.Values.{Image, Job}
 use Rattle.records.specs.Layouts.{image}
+use Rattle.records.specs.Spans.{idsIn}
 use Rattle.incremental_progress.specs.Draws.{Drawn, supply}
 use Rattle.incremental_progress.specs.Gaps.{gapCommit}
 use Rattle.incremental_progress.specs.Checks.{destinationIsSource, sourcesThere}
 use Rattle.incremental_progress.specs.Commit.{drawnImage, applied}
 use Rattle.incremental_progress.specs.Laws.{JobPasses}
-use Rattle.commit_index.specs.Index.{imageOf}
-use Rattle.commit_durable.specs.Tables.{jobOf, jobGaps}
+use Rattle.commit_index.specs.Index.{imageOf, IndexHold}
+use Rattle.commit_durable.specs.Tables.{jobOf, jobGaps, PartsHold}
 use Rattle.commit_covered.specs.Covered.{coveredBy}
 use Rattle.commit_plan.specs.Plans.{ImagePassed, CommitPlanned}
 use Rattle.commit_plan.specs.declared.plan.ImagePlan.{ImagePlan}
+use Rattle.commit.specs.declared.stages.StageHead.{StageHead}
 
 -- from check 14 on, into a buffer of `room` bytes
 unfoldable pub drawnOutcome : Drawn Image → ℕ → Outcome (List ℕ)
@@ -47,6 +49,14 @@ pub record Read (given record′ : List ℕ) : Type 0 where
   pub job : JobPasses (jobOf record′)
   pub destination : destinationIsSource (jobOf record′) ≡ true
   pub sources : sourcesThere (imageOf given) (jobOf record′) ≡ true
+
+-- head tells of the job, whose parts stand in a table, and of the image, whose runs do
+pub record StageHeld (given record′ index parts : List ℕ) (h : StageHead) : Type 0 where
+  pub destination : h .destination ≡ jobOf record′ .destination
+  pub sources : idsIn (h .sources) (drop (h .from) record′) ≡ jobOf record′ .sources
+  pub sources-within : h .from + 4 * h .sources ≤ length record′
+  pub parts-are : PartsHold record′ (h .parts) parts
+  pub runs-are : IndexHold given (h .runs) index
 
 -- ---- a commit that is planned
 -- its rows are all there, unless check 15 refuses it

@@ -2,4 +2,5 @@
 mod stages;
 mod write;
 
-pub use stages::plan_image;
+pub use stages::StageHead;
+pub use stages::cover_image;

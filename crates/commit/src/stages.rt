@@ -1,17 +1,22 @@
 // The stages of a commit after the checks 1 to 7. Each table is lent by the stage before, which made it.
 use crate::write::finish;
 use base::Written;
+use commit_covered::CoverHead;
 use commit_plan::PlanHead;
 ghost use mathlib.Core.Path.{_≡_};
 ghost use Prim.Native.Nat.{_≤_};
 ghost use lib.ListN.{length};
 ghost use Rattle.base.specs.Outcome.{lent, reported};
 ghost use Rattle.commit_plan.specs.Plans.{HeadHeld, GapsReady, OutputsPlanned};
-ghost use Rattle.commit_index.specs.Index.{IndexHold};
-ghost use Rattle.commit.specs.Stages.{plannedOutcome, Read};
+ghost use Rattle.commit_index.specs.Index.{imageOf, IndexHold};
+ghost use Rattle.commit_durable.specs.Tables.{jobOf, jobGaps, PartsHold};
+ghost use Rattle.commit_covered.specs.Covered.{coveredBy};
+ghost use Rattle.commit_covered.specs.Kept.{Room};
+ghost use Rattle.commit_covered.specs.Runs.{CoverReady};
+ghost use Rattle.commit.specs.Stages.{plannedOutcome, coveredOutcome, Read, StageHeld};
 
 // The runs planned, and what follows.
-pub fn plan_image<'a>(
+fn plan_image<'a>(
     image: &'a [u8],
     job: &'a [u8],
     ids: &[u8],
@@ -29,4 +34,69 @@ pub fn plan_image<'a>(
     let mut runs = [0usize; 384];
     let a = commit_plan::plan_runs(image, job, ids, gaps, index, &mut runs, rows, head);
     finish(image, job, ids, &runs, rows, out, a)
+}
+
+// Check 12, with a table for the entries of the outputs' ids.
+fn covered<'a>(
+    image: &'a [u8],
+    job: &'a [u8],
+    index: &[usize],
+    parts: &[usize],
+    gaps: &[usize],
+    rows: &mut [usize],
+    head: CoverHead,
+) -> bool
+    requires { ⌜ CoverReady (now image) (now job) (now index) (now gaps) head ⌝ ∗ ⌜ PartsHold (now job) (head .parts) (now parts) ⌝ ∗ ⌜ Room (now job) (now rows) ⌝ }
+    ensures { λ r. ⌜ r ≡ coveredBy (jobGaps (now (job .entry))) (imageOf (now (image .entry))) (jobOf (now (job .entry))) ⌝ }
+    ensures { λ _. ⌜ length (now (rows .exit)) ≡ length (now (rows .entry)) ⌝ }
+{
+    let mut slots = [0usize; 1024];
+    commit_covered::image_covered(image, job, index, parts, gaps, rows, &mut slots, head)
+}
+
+// The job's destination and its sources, which stand from a place on; how many parts it has, and how many runs the image.
+pub struct StageHead {
+    pub destination: u64,
+    pub sources: usize,
+    pub from: usize,
+    pub parts: usize,
+    pub runs: usize,
+}
+
+// Check 12, and what follows. The table of rows serves for the outputs' ids before it holds rows.
+pub fn cover_image<'a>(
+    image: &'a [u8],
+    job: &'a [u8],
+    ids: &[u8],
+    index: &[usize],
+    parts: &[usize],
+    rows: &mut [usize],
+    out: &mut [u8],
+    head: StageHead,
+) -> Written
+    requires { ⌜ Read (now image) (now job) ⌝ ∗ ⌜ StageHeld (now image) (now job) (now index) (now parts) head ⌝ ∗ ⌜ Room (now job) (now rows) ⌝ ∗ ⌜ 12012 ≤ length (now rows) ⌝ }
+    ensures { λ r. ⌜ r ≡ reported (coveredOutcome (now (image .entry)) (now (job .entry)) (now (ids .entry)) (length (now (out .entry)))) ⌝ }
+    ensures { λ r. ⌜ now (out .exit) ≡ lent (now (out .entry)) (coveredOutcome (now (image .entry)) (now (job .entry)) (now (ids .entry)) (length (now (out .entry)))) ⌝ }
+{
+    let mut gaps = [0usize; 390];
+    let m = commit_durable::gaps_of(job, parts, head.parts, &mut gaps);
+    let cover = CoverHead {
+        destination: head.destination,
+        parts: head.parts,
+        gaps: m,
+        runs: head.runs,
+    };
+    if covered(image, job, index, parts, &gaps, rows, cover) {
+        let outputs = commit_outputs::plan_outputs(job, ids, parts, head.parts, rows);
+        let plan = PlanHead {
+            destination: head.destination,
+            sources: head.sources,
+            from: head.from,
+            gaps: m,
+            runs: head.runs,
+            outputs,
+        };
+        return plan_image(image, job, ids, index, &gaps, rows, out, plan);
+    }
+    Written::Stop(12)
 }
