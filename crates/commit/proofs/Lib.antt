@@ -12,3 +12,5 @@ pub mod LeastBytes
 pub mod FewRows
 pub mod WriteExits
 pub mod StageExits
+pub mod FaultExits
+pub mod StageLaws

@@ -6,18 +6,22 @@ use mathlib.Core.List.{List}
 use lib.Dec.{T}
 use lib.ListN.{length, drop}
 use Rattle.base.specs.Bytes.{Bytes}
+use Rattle.base.specs.Pick.{pick}
 use Rattle.base.specs.Outcome.{Outcome, check, andThen, writtenTo}
 use Rattle.format.specs.Got.{isGot}
 use Rattle.records.specs.Values.{Image, Job}
 use Rattle.records.specs.Layouts.{image}
 use Rattle.records.specs.Spans.{idsIn}
+use Rattle.manifest.specs.Checks.{jobChecks}
 use Rattle.incremental_progress.specs.Draws.{Drawn, supply}
 use Rattle.incremental_progress.specs.Gaps.{gapCommit}
-use Rattle.incremental_progress.specs.Checks.{destinationIsSource, sourcesThere}
+use Rattle.incremental_progress.specs.Checks.{destinationIsSource, sourcesThere, plannedInOrder, outputsInOrder}
 use Rattle.incremental_progress.specs.Commit.{drawnImage, applied}
 use Rattle.incremental_progress.specs.Laws.{JobPasses}
 use Rattle.commit_index.specs.Index.{imageOf, IndexHold}
 use Rattle.commit_durable.specs.Tables.{jobOf, jobGaps, PartsHold}
+use Rattle.commit_durable.specs.Faults.{partsFault}
+use Rattle.commit_durable.specs.declared.jobs.JobHead.{JobHead}
 use Rattle.commit_covered.specs.Covered.{coveredBy}
 use Rattle.commit_plan.specs.Plans.{ImagePassed, CommitPlanned}
 use Rattle.commit_plan.specs.declared.plan.ImagePlan.{ImagePlan}
@@ -39,7 +43,31 @@ coveredOutcome given record′ ids room = check 12 (coveredBy (jobGaps record′
 unfoldable pub appliedOutcome : Image → Job → List ℕ → ℕ → Outcome (List ℕ)
 appliedOutcome i j ids room = andThen (applied i j ids) (λ new. writtenTo room (image .write new))
 
+-- the checks 8 to 11: the number of the first that fails, or 12
+unfoldable pub progressFault : Image → Job → ℕ
+progressFault i j =
+    pick (destinationIsSource j) (pick (sourcesThere i j) (pick (plannedInOrder j) (pick (outputsInOrder j) 12 11) 10) 9) 8
+
+-- head tells of the job what these checks ask
+pub record HeadTold (record′ : List ℕ) (h : JobHead) : Type 0 where
+  pub destination : h .destination ≡ jobOf record′ .destination
+  pub sources : idsIn (h .sources) (drop (h .from) record′) ≡ jobOf record′ .sources
+  pub sources-within : h .from + 4 * h .sources ≤ length record′
+  pub late : h .late ≡ partsFault (jobOf record′ .parts)
+
 -- ---- what the stages lean on
+-- the image and the job were read whole and passed the checks 4 to 7; head, and the tables of runs and of parts, tell of them
+pub record Given (given record′ index parts : List ℕ) (n : ℕ) (h : JobHead) : Type 0 where
+  pub there : T (isGot (image .read given))
+  pub passed : ImagePassed given
+  pub small-job : length record′ ≤ 65536
+  pub job-bytes : Bytes record′
+  pub ranges : jobChecks (jobOf record′) .ranges ≡ true
+  pub tables : jobChecks (jobOf record′) .tables ≡ true
+  pub runs-are : IndexHold given n index
+  pub told : HeadTold record′ h
+  pub parts-are : PartsHold record′ (h .parts) parts
+
 -- the image passed 5 and 6, the job 4, 5, 8, 10 and 11, and its sources are in the image
 pub record Read (given record′ : List ℕ) : Type 0 where
   pub there : T (isGot (image .read given))

@@ -2,5 +2,4 @@
 mod stages;
 mod write;
 
-pub use stages::StageHead;
-pub use stages::cover_image;
+pub use stages::apply;

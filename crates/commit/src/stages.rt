@@ -2,6 +2,7 @@
 use crate::write::finish;
 use base::Written;
 use commit_covered::CoverHead;
+use commit_durable::JobHead;
 use commit_plan::PlanHead;
 ghost use mathlib.Core.Path.{_≡_};
 ghost use Prim.Native.Nat.{_≤_};
@@ -13,7 +14,7 @@ ghost use Rattle.commit_durable.specs.Tables.{jobOf, jobGaps, PartsHold};
 ghost use Rattle.commit_covered.specs.Covered.{coveredBy};
 ghost use Rattle.commit_covered.specs.Kept.{Room};
 ghost use Rattle.commit_covered.specs.Runs.{CoverReady};
-ghost use Rattle.commit.specs.Stages.{plannedOutcome, coveredOutcome, Read, StageHeld};
+ghost use Rattle.commit.specs.Stages.{plannedOutcome, coveredOutcome, appliedOutcome, progressFault, Read, StageHeld, HeadTold, Given};
 
 // The runs planned, and what follows.
 fn plan_image<'a>(
@@ -64,7 +65,7 @@ pub struct StageHead {
 }
 
 // Check 12, and what follows. The table of rows serves for the outputs' ids before it holds rows.
-pub fn cover_image<'a>(
+fn cover_image<'a>(
     image: &'a [u8],
     job: &'a [u8],
     ids: &[u8],
@@ -99,4 +100,65 @@ pub fn cover_image<'a>(
         return plan_image(image, job, ids, index, &gaps, rows, out, plan);
     }
     Written::Stop(12)
+}
+
+// The same with a table of rows: as many as an image within the ceiling can have.
+fn apply_many<'a>(
+    image: &'a [u8],
+    job: &'a [u8],
+    ids: &[u8],
+    index: &[usize],
+    parts: &[usize],
+    out: &mut [u8],
+    head: StageHead,
+) -> Written
+    requires { ⌜ Read (now image) (now job) ⌝ ∗ ⌜ StageHeld (now image) (now job) (now index) (now parts) head ⌝ ∗ ⌜ length (now job) ≤ 65536 ⌝ }
+    ensures { λ r. ⌜ r ≡ reported (coveredOutcome (now (image .entry)) (now (job .entry)) (now (ids .entry)) (length (now (out .entry)))) ⌝ }
+    ensures { λ r. ⌜ now (out .exit) ≡ lent (now (out .entry)) (coveredOutcome (now (image .entry)) (now (job .entry)) (now (ids .entry)) (length (now (out .entry)))) ⌝ }
+{
+    let mut rows = [0usize; 12012];
+    cover_image(image, job, ids, index, parts, &mut rows, out, head)
+}
+
+// The number of the first of the checks 8 to 11 that fails, or 12.
+fn job_fault(image: &[u8], job: &[u8], index: &[usize], n: usize, head: JobHead) -> u8
+    requires { ⌜ IndexHold (now image) n (now index) ⌝ ∗ ⌜ HeadTold (now job) head ⌝ }
+    ensures { λ r. ⌜ r ≡ progressFault (imageOf (now (image .entry))) (jobOf (now (job .entry))) ⌝ }
+{
+    if commit_durable::is_source(job, head.from, head.sources, head.destination) {
+        if commit_index::sources_there(image, index, n, job, head.from, head.sources) {
+            return head.late;
+        }
+        return 9;
+    }
+    8
+}
+
+// An image and a job that passed the checks 1 to 7, with the tables of n runs and of the job's parts.
+pub fn apply<'a>(
+    image: &'a [u8],
+    job: &'a [u8],
+    ids: &[u8],
+    index: &[usize],
+    parts: &[usize],
+    out: &mut [u8],
+    head: JobHead,
+    n: usize,
+) -> Written
+    requires { ⌜ Given (now image) (now job) (now index) (now parts) n head ⌝ }
+    ensures { λ r. ⌜ r ≡ reported (appliedOutcome (imageOf (now (image .entry))) (jobOf (now (job .entry))) (now (ids .entry)) (length (now (out .entry)))) ⌝ }
+    ensures { λ r. ⌜ now (out .exit) ≡ lent (now (out .entry)) (appliedOutcome (imageOf (now (image .entry))) (jobOf (now (job .entry))) (now (ids .entry)) (length (now (out .entry)))) ⌝ }
+{
+    let fault = job_fault(image, job, index, n, head);
+    if fault < 12 {
+        return Written::Stop(fault);
+    }
+    let stage = StageHead {
+        destination: head.destination,
+        sources: head.sources,
+        from: head.from,
+        parts: head.parts,
+        runs: n,
+    };
+    apply_many(image, job, ids, index, parts, out, stage)
 }
