@@ -1,33 +1,36 @@
--- The exits of `commit`.
+-- The exits of `commit` and `commit_job`.
 -- Assumes nothing.
 use Prim.Native.Nat.{ℕ, _≤_, _<_}
 use native.Mathlib.Omega.{arith}
-use mathlib.Core.Path.{_≡_, refl, sym, ap, _∙_}
+use mathlib.Core.Path.{_≡_, refl, sym, ap, subst, _∙_}
 use mathlib.Core.Bool.{Bool, true, false}
 use mathlib.Core.List.{List}
 use lib.ListN.{length}
-use lib.Dec.{ltb}
-use borrow.Author.Tests.{le-ltb, ltb-false}
-use Rattle.base.specs.Pick.{pick}
+use lib.Dec.{leb}
+use borrow.Author.Tests.{le-leb, lt-leb}
+use Rattle.base.specs.Pick.{pick, and-first, and-second}
 use Rattle.base.specs.Bytes.{Bytes}
-use Rattle.base.specs.Outcome.{check, andThen, lent, writtenTo, reported}
+use Rattle.base.specs.Outcome.{Outcome, answer, check, andThen, lent, writtenTo, reported}
 use Rattle.base.specs.Outcome as outcome
 use Rattle.base.specs.declared.Written.{Written}
 use Rattle.base.specs.declared.Written.the-variants.{Stop}
-use Rattle.format.specs.Whole.{whole}
-use Rattle.records.specs.Values.{Image, Job}
-use Rattle.records.specs.Found.{valuesOf}
+use Rattle.format.specs.Got.{Got}
+use Rattle.format.specs.Whole.{whole, ended}
 use Rattle.records.specs.Layouts.{image, job}
 use Rattle.manifest.specs.Checks.{Checks, checked, joined, imageChecks, jobChecks}
 use Rattle.manifest.specs.Faults.{faultOf, least}
-use Rattle.manifest.specs.Spans.{judgedWhole, JudgedWhole}
-use Rattle.manifest.specs.declared.images.Judged.{Judged}
-use Rattle.manifest.specs.declared.images.Judged.the-variants.{At as JudgedAt, Stop as JudgedStop}
 use Rattle.manifest.proofs.Steps.{least-joined, fault-stops, fault-passes}
-use Rattle.manifest.proofs.Given.{Whole, whole-read, Numbered, numbered, stopped-is}
-use Rattle.progress.specs.Spans.{jobIn}
+use Rattle.manifest.proofs.Given.{Whole, whole-read}
 use Rattle.incremental_progress.specs.Commit.{applied, committed, commitOutcome}
-use Rattle.apply.specs.Stages.{Read, appliedOutcome}
+use Rattle.commit_index.specs.Index.{imageOf, ImageIndexed, ImageAnswer, ImageTold}
+use Rattle.commit_index.specs.declared.Indexed.{Indexed}
+use Rattle.commit_index.specs.declared.Indexed.the-variants.{At as IndexedAt, Stop as IndexedStop}
+use Rattle.commit_durable.specs.Tables.{jobOf}
+use Rattle.commit_durable.specs.Answers.{JobPassed, JobAnswer, JobTold}
+use Rattle.commit_durable.specs.declared.jobs.JobHead.{JobHead}
+use Rattle.commit_durable.specs.declared.jobs.JobJudged.{JobJudged}
+use Rattle.commit_durable.specs.declared.jobs.JobJudged.the-variants.{At as JobAt, Stop as JobStop}
+use Rattle.commit.specs.Stages.{appliedOutcome, Given}
 
 -- no check fails where the number is 8
 record AllPass (c : Checks) : Type 0 where
@@ -45,23 +48,30 @@ all-pass c h = go (c .ranges) (c .tables) (c .order) (c .sizes) refl refl refl h
     go true false d e x y z h = absurd (omega arith)
     go false b d e x y z h = absurd (omega arith)
 
-least-first : {a b : ℕ} → a ≤ b → least a b ≡ a
-unfolding least
-least-first {a} {b} h = go (ltb a b) refl
-  where
-    go : (t : Bool) → ltb a b ≡ t → pick t a b ≡ a
-    go true e = refl
-    go false e = let k : b ≤ a = ltb-false a b e in omega arith
+-- ---- a buffer read whole
+whole-long : {A : Type 0} (read : List ℕ → Got A) (s : List ℕ) → 65536 < length s → whole read s ≡ outcome.stop 3
+unfolding whole
+whole-long read s h = rw (lt-leb (length s) 65536 h)
 
-least-second : {a b : ℕ} → b < a → least a b ≡ b
-unfolding least
-least-second {a} {b} h = rw (le-ltb a b (omega arith))
+whole-short : {A : Type 0} (read : List ℕ → Got A) (s : List ℕ) → length s ≤ 65536 → whole read s ≡ ended (read s)
+unfolding whole
+whole-short read s h = rw (le-leb (length s) 65536 h)
 
-module _ (s t ids out : List ℕ) {w : Judged} (x : JudgedWhole s imageChecks (whole (image .read) s) w) where
-  module _ {k : ℕ} (q : w ≡ JudgedStop k) where
+-- ---- commit
+module _ (s t ids out : List ℕ) where
+  stopped-first : {k : ℕ} → whole (image .read) s ≡ outcome.stop k → commitOutcome s t ids (length out) ≡ outcome.stop k
+  unfolding commitOutcome
+  stopped-first e = rw e
+
+  pub commit-long : 65536 < length s → Stop 3 ≡ reported (commitOutcome s t ids (length out))
+  commit-long h = sym (ap reported (stopped-first (whole-long (image .read) s h)))
+
+  pub commit-long-kept : 65536 < length s → out ≡ lent out (commitOutcome s t ids (length out))
+  commit-long-kept h = sym (ap (lent out) (stopped-first (whole-long (image .read) s h)))
+
+  module _ {d x : List ℕ} {w : Indexed} (f : ImageIndexed s d x w) (h : length s ≤ 65536) {k : ℕ} (q : w ≡ IndexedStop k) where
     not-an-image : commitOutcome s t ids (length out) ≡ outcome.stop k
-    unfolding commitOutcome
-    not-an-image = rw (stopped-is imageChecks (whole (image .read) s) k (sym (ap judgedWhole q) ∙ x .meaning))
+    not-an-image = stopped-first (whole-short (image .read) s h ∙ subst (ImageAnswer s x) q (f .is))
 
     pub commit-image-stops : Stop k ≡ reported (commitOutcome s t ids (length out))
     commit-image-stops = sym (ap reported not-an-image)
@@ -69,114 +79,95 @@ module _ (s t ids out : List ℕ) {w : Judged} (x : JudgedWhole s imageChecks (w
     pub commit-image-kept : out ≡ lent out (commitOutcome s t ids (length out))
     commit-image-kept = sym (ap (lent out) not-an-image)
 
-  module _ {nx a : ℕ} (q : w ≡ JudgedAt nx a) {v : Judged} (y : JudgedWhole t jobChecks (whole (job .read) t) v) where
-    the-image : Numbered imageChecks (whole (image .read) s) a
-    the-image = numbered imageChecks (whole (image .read) s) a (sym (ap judgedWhole q) ∙ x .meaning)
+pub commit-told : {s d x : List ℕ} {w : Indexed} → ImageIndexed s d x w → {n a : ℕ} → w ≡ IndexedAt n a → ImageTold s x n a
+commit-told {s} {d} {x} f q = subst (ImageAnswer s x) q (f .is)
 
-    module _ {k : ℕ} (z : v ≡ JudgedStop k) where
-      not-a-job : commitOutcome s t ids (length out) ≡ outcome.stop k
-      unfolding commitOutcome
-      not-a-job = rw (the-image .is, stopped-is jobChecks (whole (job .read) t) k (sym (ap judgedWhole z) ∙ y .meaning))
+pub ruleset commit-exits = (commit-long, commit-long-kept, commit-image-stops, commit-image-kept, commit-told)
 
-      pub commit-job-stops : Stop k ≡ reported (commitOutcome s t ids (length out))
-      commit-job-stops = sym (ap reported not-a-job)
+-- ---- commit_job
+module _ {s x : List ℕ} {n a : ℕ} (i : ImageTold s x n a) (h : length s ≤ 65536) where
+  the-image : whole (image .read) s ≡ answer (imageOf s)
+  the-image = whole-short (image .read) s h ∙ i .is
 
-      pub commit-job-kept : out ≡ lent out (commitOutcome s t ids (length out))
-      commit-job-kept = sym (ap (lent out) not-a-job)
+  module _ (t ids out : List ℕ) where
+    stopped-second : {k : ℕ} → whole (job .read) t ≡ outcome.stop k → commitOutcome s t ids (length out) ≡ outcome.stop k
+    unfolding commitOutcome
+    stopped-second e = rw (the-image, e)
 
-    module _ {ny b : ℕ} (z : v ≡ JudgedAt ny b) where
-      the-job : Numbered jobChecks (whole (job .read) t) b
-      the-job = numbered jobChecks (whole (job .read) t) b (sym (ap judgedWhole z) ∙ y .meaning)
+    pub job-long : 65536 < length t → Stop 3 ≡ reported (commitOutcome s t ids (length out))
+    job-long k = sym (ap reported (stopped-second (whole-long (job .read) t k)))
 
-      i : Image
-      i = the-image .value
+    pub job-long-kept : 65536 < length t → out ≡ lent out (commitOutcome s t ids (length out))
+    job-long-kept k = sym (ap (lent out) (stopped-second (whole-long (job .read) t k)))
 
-      j : Job
-      j = the-job .value
+    module _ {d y : List ℕ} {w : JobJudged} (f : JobPassed t d y w) (l : length t ≤ 65536) where
+      module _ {k : ℕ} (q : w ≡ JobStop k) where
+        not-a-job : commitOutcome s t ids (length out) ≡ outcome.stop k
+        not-a-job = stopped-second (whole-short (job .read) t l ∙ subst (JobAnswer t y) q (f .is))
 
-      both-checks : Checks
-      both-checks = joined (imageChecks i) (jobChecks j)
+        pub job-stops : Stop k ≡ reported (commitOutcome s t ids (length out))
+        job-stops = sym (ap reported not-a-job)
 
-      fault-both : faultOf both-checks ≡ least a b
-      unfolding both-checks i j
-      fault-both = sym (least-joined (imageChecks i) (jobChecks j)) ∙ rw (← (the-image .fault-is), ← (the-job .fault-is))
+        pub job-stops-kept : out ≡ lent out (commitOutcome s t ids (length out))
+        job-stops-kept = sym (ap (lent out) not-a-job)
 
-      opened : commitOutcome s t ids (length out) ≡ andThen (checked both-checks (applied i j ids)) (λ new. writtenTo (length out) (image .write new))
-      unfolding commitOutcome committed both-checks i j
-      opened = rw (the-image .is, the-job .is)
+      module _ {b : JobHead} (q : w ≡ JobAt b) where
+        told : JobTold t y b
+        told = subst (JobAnswer t y) q (f .is)
 
-      refused : least a b < 8 → commitOutcome s t ids (length out) ≡ outcome.stop (least a b)
-      refused h = opened ∙ ap (λ o. andThen o (λ new. writtenTo (length out) (image .write new))) (fault-stops both-checks (applied i j ids) (rw fault-both h)) ∙ ap outcome.stop fault-both
+        the-job : whole (job .read) t ≡ answer (jobOf t)
+        the-job = whole-short (job .read) t l ∙ told .is
 
-      pub commit-first : a < 8 → a ≤ b → Stop a ≡ reported (commitOutcome s t ids (length out))
-      commit-first h l = ap Stop (sym (least-first l)) ∙ sym (ap reported (refused (rw (least-first l) h)))
+        abbrev both-checks : Checks
+        both-checks = joined (imageChecks (imageOf s)) (jobChecks (jobOf t))
 
-      pub commit-first-kept : a < 8 → a ≤ b → out ≡ lent out (commitOutcome s t ids (length out))
-      commit-first-kept h l = sym (ap (lent out) (refused (rw (least-first l) h)))
+        opened : commitOutcome s t ids (length out) ≡ andThen (checked both-checks (applied (imageOf s) (jobOf t) ids)) (λ new. writtenTo (length out) (image .write new))
+        unfolding commitOutcome committed
+        opened = rw (the-image, the-job)
 
-      pub commit-second : b < a → b < 8 → Stop b ≡ reported (commitOutcome s t ids (length out))
-      commit-second l h = ap Stop (sym (least-second l)) ∙ sym (ap reported (refused (rw (least-second l) h)))
+        module _ {m : ℕ} (e : m ≡ least a (b .fault)) where
+          fault-both : m ≡ faultOf both-checks
+          fault-both = rw (e, i .fault-is, told .fault) (least-joined (imageChecks (imageOf s)) (jobChecks (jobOf t)))
 
-      pub commit-second-kept : b < a → b < 8 → out ≡ lent out (commitOutcome s t ids (length out))
-      commit-second-kept l h = sym (ap (lent out) (refused (rw (least-second l) h)))
+          module _ (k : m < 8) where
+            refused : commitOutcome s t ids (length out) ≡ outcome.stop m
+            refused = opened ∙ ap (λ o. andThen o (λ new. writtenTo (length out) (image .write new))) (fault-stops both-checks (applied (imageOf s) (jobOf t) ids) (rw fault-both at k)) ∙ ap outcome.stop (sym fault-both)
 
-      pub commit-lesser : a < 8 → b < a → Stop b ≡ reported (commitOutcome s t ids (length out))
-      commit-lesser h l = commit-second l (omega arith)
+            pub job-faulty : Stop m ≡ reported (commitOutcome s t ids (length out))
+            job-faulty = sym (ap reported refused)
 
-      pub commit-lesser-kept : a < 8 → b < a → out ≡ lent out (commitOutcome s t ids (length out))
-      commit-lesser-kept h l = commit-second-kept l (omega arith)
+            pub job-faulty-kept : out ≡ lent out (commitOutcome s t ids (length out))
+            job-faulty-kept = sym (ap (lent out) refused)
 
-      pub commit-alone : 8 ≤ a → b < 8 → Stop b ≡ reported (commitOutcome s t ids (length out))
-      commit-alone h l = commit-second (omega arith) l
+          module _ (k : 8 ≤ m) where
+            both-pass : AllPass both-checks
+            both-pass = all-pass both-checks (rw fault-both at k)
 
-      pub commit-alone-kept : 8 ≤ a → b < 8 → out ≡ lent out (commitOutcome s t ids (length out))
-      commit-alone-kept h l = commit-second-kept (omega arith) l
+            pub job-given : Bytes s → Bytes t → Given s t x y n b
+            job-given bs bt =
+                let ci = imageChecks (imageOf s) in
+                let cj = jobChecks (jobOf t) in
+                let wi = whole-read (image .read) s (imageOf s) the-image in
+                record {
+                  there = rw (wi .all) tt;
+                  passed = record { small = omega (arith, h); bytes = bs; tables = and-first (ci .tables) (cj .tables) (both-pass .tables); order = and-first (ci .order) (cj .order) (both-pass .order) };
+                  small-job = l;
+                  job-bytes = bt;
+                  ranges = and-second (ci .ranges) (cj .ranges) (both-pass .ranges);
+                  tables = and-second (ci .tables) (cj .tables) (both-pass .tables);
+                  runs-are = i .runs;
+                  told = record { destination = told .destination; sources = told .sources; sources-within = told .inside; late = told .late };
+                  parts-are = told .parts;
+                }
 
-      module _ (ha : 8 ≤ a) (hb : 8 ≤ b) where
-        at-least : 8 ≤ faultOf both-checks
-        unfolding least
-        at-least = rw fault-both (go (ltb a b))
-          where
-            go : (t : Bool) → 8 ≤ pick t a b
-            go true = ha
-            go false = hb
+            same : commitOutcome s t ids (length out) ≡ appliedOutcome (imageOf s) (jobOf t) ids (length out)
+            unfolding appliedOutcome
+            same = opened ∙ ap (λ o. andThen o (λ new. writtenTo (length out) (image .write new))) (fault-passes both-checks (applied (imageOf s) (jobOf t) ids) (rw fault-both at k))
 
-        whole-image : Whole (image .read) s i
-        unfolding i
-        whole-image = whole-read (image .read) s (the-image .value) (the-image .is)
+            pub job-report : {r : Written} → r ≡ reported (appliedOutcome (imageOf s) (jobOf t) ids (length out)) → r ≡ reported (commitOutcome s t ids (length out))
+            job-report z = z ∙ sym (ap reported same)
 
-        whole-job : Whole (job .read) t j
-        unfolding j
-        whole-job = whole-read (job .read) t (the-job .value) (the-job .is)
+            pub job-written : {o : List ℕ} → o ≡ lent out (appliedOutcome (imageOf s) (jobOf t) ids (length out)) → o ≡ lent out (commitOutcome s t ids (length out))
+            job-written z = z ∙ sym (ap (lent out) same)
 
-        passes-image : AllPass (imageChecks i)
-        unfolding i
-        passes-image = all-pass (imageChecks i) (rw (← (the-image .fault-is)) ha)
-
-        passes-job : AllPass (jobChecks j)
-        unfolding j
-        passes-job = all-pass (jobChecks j) (rw (← (the-job .fault-is)) hb)
-
-        pub commit-read : Bytes s → Bytes t → Read s t
-        commit-read bs bt =
-            record {
-              small = whole-image .small;
-              small-task = whole-job .small;
-              bytes = bs;
-              bytes-task = bt;
-              there = rw (whole-image .all) tt;
-              task-there = rw (whole-job .all) tt;
-              passed = rw (whole-image .all, whole-job .all) (record { tables = passes-image .tables; order = passes-image .order; ranges = passes-job .ranges; outputs = passes-job .tables });
-            }
-
-        same : commitOutcome s t ids (length out) ≡ appliedOutcome (valuesOf (image .read s)) (jobIn (job .read t)) ids (length out)
-        unfolding appliedOutcome
-        same = opened ∙ ap (λ o. andThen o (λ new. writtenTo (length out) (image .write new))) (fault-passes both-checks (applied i j ids) at-least) ∙ rw (whole-image .all, whole-job .all)
-
-        pub commit-report : {r : Written} → r ≡ reported (appliedOutcome (valuesOf (image .read s)) (jobIn (job .read t)) ids (length out)) → r ≡ reported (commitOutcome s t ids (length out))
-        commit-report e = e ∙ sym (ap reported same)
-
-        pub commit-written : {o : List ℕ} → o ≡ lent out (appliedOutcome (valuesOf (image .read s)) (jobIn (job .read t)) ids (length out)) → o ≡ lent out (commitOutcome s t ids (length out))
-        commit-written e = e ∙ sym (ap (lent out) same)
-
-pub ruleset commit-exits = (commit-image-stops, commit-image-kept, commit-job-stops, commit-job-kept, commit-first, commit-first-kept, commit-lesser, commit-lesser-kept, commit-alone, commit-alone-kept, commit-read, commit-report, commit-written)
+pub ruleset job-exits = (job-long, job-long-kept, job-stops, job-stops-kept, job-faulty, job-faulty-kept, job-given, job-report, job-written)
