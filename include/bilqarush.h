@@ -238,7 +238,7 @@ uint8_t bilqarush_list(const uint8_t *image, size_t image_len, uint8_t *out, siz
  *
  * A new view id keeps the 48 bits of time of the old one and takes the next 10 bytes of `ids`, and 10 more if that makes
  * the old id again; a rest of under 10 bytes counts as used up. Cut outputs draw first, in job order, then the views of
- * source runs, in image order. The supply has no ceiling. The call takes about 50 KB of stack.
+ * source runs, in image order. The supply has no ceiling. The call takes about 120 KB of stack.
  *
  * Stops: the fields of image, then of job; 4, 5, 6 and 7, each over both before the next; 8; 9; 10; 11; 12; 14; 15; 16.
  */

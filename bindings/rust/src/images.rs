@@ -62,7 +62,7 @@ pub fn list<'o>(image: &[u8], out: &'o mut [u8]) -> Result<&'o mut [u8], Stop> {
 ///
 /// A new view id keeps the 48 bits of time of the old one and takes the next 10 bytes of `ids`, and 10 more if that makes
 /// the old id again. Cut outputs draw first, in job order, then the views of source runs, in image order. The call takes
-/// about 50 KB of stack.
+/// about 120 KB of stack.
 ///
 /// Stops: 3 (length), 1 to 3 in the fields of `image`, then of `job`; 4, 5, 6 and 7, each over both before the next; 8; 9;
 /// 10; 11; 12; 14; 15; 16. [`IMAGE_LEN`](crate::IMAGE_LEN) bytes of `out` are always enough.

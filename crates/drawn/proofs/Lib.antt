@@ -1,4 +1,0 @@
-pub mod Pieces
-pub mod WriteExits
-pub mod SupplyExits
-pub mod Adding

@@ -1,2 +1,0 @@
-pub mod Supply
-pub mod Bytes

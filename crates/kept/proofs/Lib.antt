@@ -1,4 +1,0 @@
-pub mod KeptLaws
-pub mod KeepingLaws
-pub mod PieceExits
-pub mod ViewExits

@@ -1,6 +1,0 @@
-pub mod Meaning
-pub mod Placing
-pub mod Lengths
-pub mod RunExits
-pub mod Loop
-pub mod ImageExits

@@ -1,4 +1,0 @@
-pub mod EntryExits
-pub mod SelectExits
-pub mod IntervalExits
-pub mod DestinationExits

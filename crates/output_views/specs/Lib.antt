@@ -1,3 +1,0 @@
-pub mod Covered
-pub mod Ids
-pub mod Spans

@@ -1,6 +1,0 @@
-// Check 12 of an image and a job: nothing of a destination view of an output table lies in a gap between durable intervals.
-mod ids;
-mod left;
-mod runs;
-
-pub use runs::views_covered;

@@ -1,4 +1,0 @@
-pub mod OnePiece
-pub mod HeldExits
-pub mod LenExits
-pub mod SizeExits

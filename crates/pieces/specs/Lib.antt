@@ -1,4 +1,0 @@
-pub mod Pieces
-pub mod Held
-pub mod Sizes
-pub mod Entries

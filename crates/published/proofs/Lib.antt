@@ -1,9 +1,0 @@
-pub mod OutputExits
-pub mod TableBytes
-pub mod Lots
-pub mod SizeExits
-pub mod PartExits
-pub mod Summing
-pub mod Putting
-pub mod PutExits
-pub mod PutMany

@@ -1,4 +1,0 @@
-pub mod Outputs
-pub mod Parts
-pub mod Most
-pub mod Filled

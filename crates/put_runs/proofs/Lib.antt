@@ -1,3 +1,0 @@
-pub mod RunExits
-pub mod LoopExits
-pub mod ImageExits
