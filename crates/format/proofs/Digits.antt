@@ -12,7 +12,7 @@ use lib.Dec.{lit<}
 use mir.Val.{Fits}
 use mir.Syntax.{w64}
 use borrow.Author.Tests.{le-leb, lt-leb}
-use Rattle.key.specs.Word.{digits}
+use Rattle.key.specs.Word.{digits, WordAt}
 use Rattle.format.specs.Got.{got}
 use Rattle.format.specs.Number.{readNumber, numberOf}
 use Rattle.format.specs.declared.Number.the-variants.{Value, Short}
@@ -77,4 +77,8 @@ module _ (s : List ℕ) (at n : ℕ) where
     pub number-read : at ≤ length s → n ≤ length s - at → numberOf n s at (Value v) ≡ readNumber n (drop at s)
     number-read h l = sym (number-is (omega arith))
 
-pub ruleset number-exits = (number-past, number-cut, number-is, number-read)
+  pub number-word : {v : ℕ} → WordAt s at v → n ≡ 8 → at + n ≤ length s → readNumber n (drop at s) ≡ got v (drop (at + n) s)
+  unfolding readNumber
+  number-word w q h = rw (le-leb n (length (drop at s)) (rw length-drop (omega arith)), drop-drop, w .value, q)
+
+pub ruleset number-exits = (number-past, number-cut, number-is, number-read, number-word)

@@ -15,13 +15,12 @@ use borrow.Author.Tests.{leb-true, eq-eqb, ne-eqb}
 use Rattle.base.specs.Outcome.{Outcome, answer, check}
 use Rattle.base.specs.Outcome as outcome
 use Rattle.key.specs.Order.{atMost}
-use Rattle.comparable_range.specs.Range.{Range, unbounded, cmpBound}
+use Rattle.comparable_range.specs.Range.{unbounded, cmpBound}
 use Rattle.comparable_range.specs.declared.Kind.the-variants.{Unbounded}
 use Rattle.format.specs.Got.{Got, got, stop, andThen}
 use Rattle.format.specs.Number.{readNumber}
 use Rattle.format.specs.Range.{boundIn, BoundInside}
 use Rattle.format.specs.declared.range.BoundSpan.{BoundSpan}
-use Rattle.format.specs.declared.span.RangeSpan.{RangeSpan}
 use Rattle.records.specs.Form.{readMany, taken}
 use Rattle.records.specs.Values.{View, Run}
 use Rattle.records.specs.Layouts.{view, run, image, upTo, countOf}
@@ -38,7 +37,7 @@ use Rattle.records.proofs.HeadExits.{runOf, run-is, image-is}
 use Rattle.manifest.specs.Ranges.{effective}
 use Rattle.manifest.specs.Checks.{Checks, imageChecks, starts, has}
 use Rattle.manifest.specs.Faults.{faultOf, least, ordered, viewChecks, viewsChecks, lastOf}
-use Rattle.manifest.specs.Spans.{EffectiveFound, faults, judged, JudgedFound}
+use Rattle.manifest.specs.Spans.{BoundFound, faults, judged, JudgedFound}
 use Rattle.manifest.specs.declared.images.Judged.{Judged}
 use Rattle.manifest.specs.declared.images.Judged.the-variants.{At, Stop}
 use Rattle.manifest.proofs.Steps.{views-none, views-more, starts-more, last-more, image-none, image-more}
@@ -78,21 +77,20 @@ module _ {s : List ℕ} {from n left at fault : ℕ} {before : BoundSpan} (p : V
       view-inside = rw q at (f .inside)
 
       pub views-onward :
-          {e : RangeSpan} {a b c d : ℕ}
-          → EffectiveFound s v e
+          {x : BoundSpan} {a b c d : ℕ}
+          → BoundFound s (effective (viewIn s v) .start) x
           → a ≡ faultOf (viewChecks (viewIn s v))
-          → b ≡ faultOf (ordered (atMost (cmpBound true (boundIn s before) (boundIn s (e .start)))))
+          → b ≡ faultOf (ordered (atMost (cmpBound true (boundIn s before) (boundIn s x))))
           → c ≡ least a b
           → d ≡ least fault c
-          → ViewsSeen s from n (left - 1) (v .past) d (e .start)
-      views-onward {e} {a} {b} {c} {d} x ha hb hc hd =
-          let start : boundIn s (e .start) ≡ effective (viewIn s v) .start = ap (λ (r : Range). r .start) (x .meaning) in
+          → ViewsSeen s from n (left - 1) (v .past) d x
+      views-onward {x} {a} {b} {c} {d} e ha hb hc hd =
           record {
             seen = p .seen ++ (viewIn s v ∷ []);
             reading = onward (p .reading) h (sym (f .meaning) ∙ rw q) (view-inside .past);
-            so-far = hd ∙ rw (hc, ha, hb, p .so-far, p .last, start) (sym (views-more (p .seen) (viewIn s v)));
-            last = start ∙ sym (ap (lastOf unbounded) (starts-more (p .seen) (viewIn s v)) ∙ last-more unbounded (starts (p .seen)) (effective (viewIn s v) .start));
-            last-in = x .start;
+            so-far = hd ∙ rw (hc, ha, hb, p .so-far, p .last, e .is) (sym (views-more (p .seen) (viewIn s v)));
+            last = e .is ∙ sym (ap (lastOf unbounded) (starts-more (p .seen) (viewIn s v)) ∙ last-more unbounded (starts (p .seen)) (effective (viewIn s v) .start));
+            last-in = e .inside;
           }
 
 pub ruleset views-exits = (views-begin, views-at, before-in, views-end, views-stop, view-inside, views-onward)

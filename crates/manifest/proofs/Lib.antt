@@ -5,7 +5,6 @@ pub mod CheckExits
 pub mod ImageExits
 pub mod Given
 pub mod ImageLaws
-pub mod JobExits
 pub mod WholeExits
 pub mod IndexExits
 pub mod AnchorExits

@@ -17,7 +17,7 @@ use Rattle.records.specs.Spans.{tableIn, viewIn, ViewInside, ifSo}
 use Rattle.records.specs.declared.tables.TableSpan.{TableSpan}
 use Rattle.records.specs.declared.views.ViewSpan.{ViewSpan}
 use Rattle.manifest.specs.Ranges.{own, lastBound, effective}
-use Rattle.manifest.specs.Spans.{firstSpan, lastKind, lastSpan, EffectiveFound}
+use Rattle.manifest.specs.Spans.{firstSpan, lastKind, lastSpan, BoundFound, EffectiveFound}
 
 -- ---- own_end
 abbrev span : Kind → ℕ → ℕ → BoundSpan
@@ -64,11 +64,11 @@ module _ (s : List ℕ) (v : ViewSpan) (p : ViewInside s v) {a b : BoundSpan} (h
   own-is : rangeIn s a b ≡ own (tableIn s (v .table))
   own-is = ap (λ c. rangeIn s c b) h ∙ ap (λ c. rangeIn s (firstSpan (v .table)) c) l ∙ own-in s (v .table)
 
-  pub not-shown : v .shown ≡ false → EffectiveFound s v (record { start = a; end = b })
+  not-shown : v .shown ≡ false → EffectiveFound s v (record { start = a; end = b })
   unfolding effective
   not-shown e = record { meaning = own-is ∙ rw e; start = first-inside s v p h; end = last-inside s v p l }
 
-  pub shown :
+  shown :
       {c d : BoundSpan} {j k : Side}
       → v .shown ≡ true
       → j ≡ startSide (boundIn s a) (boundIn s (v .start))
@@ -94,4 +94,22 @@ module _ (s : List ℕ) (v : ViewSpan) (p : ViewInside s v) {a b : BoundSpan} (h
       cut e x y =
           rw (x, y, of-in s (startSide (boundIn s a) (boundIn s (v .start))) a (v .start), of-in s (endSide (boundIn s b) (boundIn s (v .end))) b (v .end), e, starts, ends)
 
-pub ruleset effective-exits = (first-inside, last-inside, start-inside, end-inside, not-shown, shown)
+module _ (s : List ℕ) (v : ViewSpan) (p : ViewInside s v) where
+  module _ {a : BoundSpan} (h : a ≡ firstSpan (v .table)) where
+    pub start-own : v .shown ≡ false → BoundFound s (effective (viewIn s v) .start) a
+    start-own e = let f = not-shown s v p h refl e in record { is = ap (λ (r : Range). r .start) (f .meaning); inside = f .start }
+
+    pub start-cut : {c : BoundSpan} {j : Side} → v .shown ≡ true → j ≡ startSide (boundIn s a) (boundIn s (v .start)) → c ≡ of j a (v .start) → BoundFound s (effective (viewIn s v) .start) c
+    start-cut e g x = let f = shown s v p h refl e g x refl refl in record { is = ap (λ (r : Range). r .start) (f .meaning); inside = f .start }
+
+  module _ {b : BoundSpan} (l : b ≡ lastSpan (v .table)) where
+    pub end-own : v .shown ≡ false → BoundFound s (effective (viewIn s v) .end) b
+    end-own e = let f = not-shown s v p refl l e in record { is = ap (λ (r : Range). r .end) (f .meaning); inside = f .end }
+
+    pub end-cut : {d : BoundSpan} {k : Side} → v .shown ≡ true → k ≡ endSide (boundIn s b) (boundIn s (v .end)) → d ≡ of k b (v .end) → BoundFound s (effective (viewIn s v) .end) d
+    end-cut e i y = let f = shown s v p refl l e refl refl i y in record { is = ap (λ (r : Range). r .end) (f .meaning); inside = f .end }
+
+pub ruleset bound-exits = (first-inside, last-inside, start-inside, end-inside, start-own, start-cut, end-own, end-cut)
+
+pub both-bounds : (s : List ℕ) (v : ViewSpan) {a b : BoundSpan} → BoundFound s (effective (viewIn s v) .start) a → BoundFound s (effective (viewIn s v) .end) b → EffectiveFound s v (record { start = a; end = b })
+both-bounds s v f g = record { meaning = rw (f .is, g .is); start = f .inside; end = g .inside }

@@ -11,7 +11,8 @@ use Rattle.base.specs.Outcome as outcome
 use Rattle.comparable_range.specs.declared.Kind.{Kind}
 use Rattle.comparable_range.specs.declared.Kind.the-variants.{Unbounded, Included, Excluded}
 use Rattle.format.specs.Got.{Got, got, stop}
-use Rattle.format.specs.Range.{rangeIn, BoundInside}
+use Rattle.comparable_range.specs.Range.{Bound}
+use Rattle.format.specs.Range.{boundIn, rangeIn, BoundInside}
 use Rattle.format.specs.declared.range.BoundSpan.{BoundSpan}
 use Rattle.format.specs.declared.span.RangeSpan.{RangeSpan}
 use Rattle.records.specs.Spans.{viewIn}
@@ -33,6 +34,11 @@ lastKind flagged = pick flagged Included Unbounded
 
 abbrev pub lastSpan : TableSpan → BoundSpan
 lastSpan t = record { kind = lastKind (t .flagged); at = t .«last_at»; len = t .«last_len» }
+
+-- r stands for the bound
+pub record BoundFound (s : List ℕ) (b : Bound) (r : BoundSpan) : Type 0 where
+  pub is : boundIn s r ≡ b
+  pub inside : BoundInside s r
 
 -- the bounds are those of the view's effective range
 pub record EffectiveFound (s : List ℕ) (v : ViewSpan) (r : RangeSpan) : Type 0 where

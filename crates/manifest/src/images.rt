@@ -2,9 +2,11 @@
 use crate::checks::lesser;
 use crate::checks::order_fault;
 use crate::checks::view_fault;
-use crate::ranges::effective;
+use crate::ranges::effective_end;
+use crate::ranges::effective_start;
 use comparable_range::Kind;
 use format::BoundSpan;
+use format::span::RangeSpan;
 use records::CountRead;
 use records::RunRead;
 use records::ViewRead;
@@ -44,8 +46,11 @@ pub fn views_judged(s: &[u8], from: usize, n: usize) -> Judged
                 return Judged::Stop(k);
             }
             ViewRead::At(v) => {
-                let e = effective(s, v);
-                let start = e.start;
+                let start = effective_start(s, v);
+                let e = RangeSpan {
+                    start,
+                    end: effective_end(s, v),
+                };
                 fault = lesser(
                     fault,
                     lesser(view_fault(s, v, e), order_fault(s, before, start)),

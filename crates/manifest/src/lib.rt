@@ -1,9 +1,8 @@
-// The checks 4 to 7 of an image, a job and an index, the total of anchors, and the effective ranges of an image's views.
+// The checks 4 to 7 of an image and an index, the total of anchors, and the effective ranges of an image's views.
 mod anchors;
 mod checks;
 mod images;
 mod indexes;
-mod jobs;
 mod ranges;
 
 pub use anchors::added;
@@ -15,7 +14,6 @@ pub use images::image_judged;
 pub use images::views_judged;
 pub use indexes::index_at;
 pub use indexes::index_judged;
-pub use jobs::job_judged;
 pub use ranges::effective;
 pub use ranges::own_end;
 pub use ranges::own_start;
