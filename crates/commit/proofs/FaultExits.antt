@@ -1,4 +1,4 @@
--- The exits of `apply_many` and `job_fault`.
+-- The exits of `job_fault`.
 -- Assumes nothing.
 use Prim.Native.Nat.{ℕ, _+_, _*_, _≤_}
 use native.Mathlib.Omega.{arith}
@@ -14,7 +14,6 @@ use Rattle.commit_index.specs.Index.{imageOf, imageIds}
 use Rattle.commit_durable.specs.Tables.{jobOf}
 use Rattle.commit_durable.specs.Faults.{partsFault}
 use Rattle.commit_durable.specs.declared.jobs.JobHead.{JobHead}
-use Rattle.commit_covered.specs.Kept.{Room}
 use Rattle.commit.specs.Stages.{progressFault, HeadTold}
 
 -- ---- job_fault
@@ -43,9 +42,5 @@ module _ {record′ : List ℕ} {h : JobHead} (t : HeadTold record′ h) where
       pub later-fault : b ≡ true → h .late ≡ progressFault (imageOf given) (jobOf record′)
       unfolding progressFault partsFault plannedInOrder outputsInOrder
       later-fault r = rw (is-source, q, are-there, r) (t .late)
-
--- ---- apply_many
-pub many-room : {record′ rows : List ℕ} → length record′ ≤ 65536 → 12012 ≤ length rows → Room record′ rows
-many-room h k = record { enough = omega arith }
 
 pub ruleset fault-exits = (told-within, not-a-source, not-there, later-fault)

@@ -1,4 +1,4 @@
--- A plan whose image is within the ceiling has at most 1,092 rows.
+-- A plan has at most one row for each 60 bytes of its image.
 -- Assumes nothing.
 use Prim.Native.Nat.{ℕ, _+_, _*_, _≤_}
 use native.Mathlib.Omega.{arith}
@@ -25,8 +25,6 @@ use Rattle.incremental_progress.specs.Plans.{jobGaps, runDraws, drawEntries, en
 use Rattle.incremental_progress.proofs.Ceilings.{EntryWithin, outputs-within}
 use Rattle.incremental_progress.proofs.Filling.{source}
 use Rattle.commit_durable.specs.Tables.{jobOf}
-use Rattle.commit_plan.specs.Plans.{CommitPlanned}
-use Rattle.commit_plan.specs.declared.plan.ImagePlan.{ImagePlan}
 use Rattle.commit.proofs.ReadWithin.{image-read, parts-read}
 use Rattle.commit.proofs.LeastBytes.{entries-least}
 
@@ -114,30 +112,21 @@ pub destination-there : (i : Image) (j : Job) → destinationIsSource j ≡ true
 unfolding destinationIsSource sourcesThere
 destination-there i j h e = all-has (λ n. has n (map (λ r. r .id) i)) (j .destination) (j .sources) h e
 
--- ---- the plan
-module _ {given record′ ids rows runs : List ℕ} {q : ImagePlan} (p : CommitPlanned given record′ ids rows runs q) (b : Bytes given) (c : Bytes record′) where
+-- ---- all rows
+module _ {given record′ : List ℕ} (b : Bytes given) (c : Bytes record′) where
   abbrev i : Image
   i = imageOf given
 
   abbrev j : Job
   j = jobOf record′
 
-  count-is : q .plan .rows ≡ length (flatMap partEntries (j .parts)) + length (flatMap (runDraws j) i)
-  unfolding drawEntries
-  count-is = p .planned .count ∙ length-append (flatMap partEntries (j .parts)) (flatMap (runDraws j) i)
-
-  bytes-are : q .bytes ≡ 1 + runsLength j i
-  unfolding imageLength
-  bytes-are = p .bytes
-
   outputs-least : 60 * length (flatMap partEntries (j .parts)) ≤ length (entryBytes (flatMap partEntries (j .parts)))
   outputs-least =
       entries-least (flatMap partEntries (j .parts)) (All-map output-within (flatMap partEntries (j .parts)) (outputs-within (j .parts) (parts-read record′ c)))
 
-  pub rows-least : destinationIsSource j ≡ true → sourcesThere i j ≡ true → 60 * q .plan .rows ≤ q .bytes
+  pub rows-least : destinationIsSource j ≡ true → sourcesThere i j ≡ true → 60 * length (drawEntries j i) ≤ imageLength j i
+  unfolding drawEntries imageLength
   rows-least h e =
       let w = All-map (λ r k. k .views) i (image-read given b .runs) in
-      omega (arith, count-is, bytes-are, outputs-least, with-outputs j i w (destination-there i j h e))
-
-  pub rows-few : destinationIsSource j ≡ true → sourcesThere i j ≡ true → q .bytes ≤ 65536 → q .plan .rows ≤ 1092
-  rows-few h e l = omega (arith, rows-least h e, l)
+      let l = length-append (flatMap partEntries (j .parts)) (flatMap (runDraws j) i) in
+      omega (arith, l, outputs-least, with-outputs j i w (destination-there i j h e))

@@ -10,6 +10,8 @@ pub mod PlanRows
 pub mod PlanWritten
 pub mod LeastBytes
 pub mod FewRows
+pub mod MostRows
+pub mod RowExits
 pub mod WriteExits
 pub mod StageExits
 pub mod FaultExits

@@ -14,31 +14,34 @@ use Rattle.commit_durable.specs.Answers.{GapsMade}
 use Rattle.commit_index.specs.Index.{imageOf, IndexHold}
 use Rattle.commit_gaps.proofs.InOrder.{gaps-ordered}
 use Rattle.commit_covered.specs.Covered.{coveredBy}
+use Rattle.commit_covered.specs.Kept.{Room}
 use Rattle.commit_covered.specs.Runs.{CoverReady}
 use Rattle.commit_covered.specs.declared.runs.CoverHead.{CoverHead}
+use Rattle.commit_covered.proofs.Sizes.{few-outputs}
 use Rattle.commit_entries.proofs.Planning.{planned-begin}
 use Rattle.commit_entries.specs.declared.Plan.{Plan}
 use Rattle.commit_outputs.specs.Outputs.{PlannedOutputs}
 use Rattle.commit_plan.specs.Plans.{ImagePassed, HeadHeld, GapsReady, OutputsPlanned, CommitPlanned}
 use Rattle.commit_plan.specs.declared.plan.PlanHead.{PlanHead}
 use Rattle.commit_plan.specs.declared.plan.ImagePlan.{ImagePlan}
-use Rattle.commit.specs.Stages.{plannedOutcome, coveredOutcome, Read, StageHeld, Ready}
+use Rattle.commit.specs.Stages.{plannedOutcome, coveredOutcome, Read, StageHeld, Ready, RowsEnough, rowsAtMost}
 use Rattle.commit.specs.declared.stages.StageHead.{StageHead}
-use Rattle.commit.proofs.FewRows.{rows-few}
+use Rattle.commit.proofs.FewRows.{rows-least}
+use Rattle.commit.proofs.MostRows.{rows-at-most, outputs-at-most}
 
 -- ---- plan_image
 module _ {given record′ : List ℕ} (r : Read given record′) where
   pub stage-passed : ImagePassed given
   stage-passed = r .passed
 
-  pub stage-ready : {ids runs rows : List ℕ} {a : ImagePlan} (before : List ℕ) → 12012 ≤ length before → CommitPlanned given record′ ids rows runs a → length rows ≡ length before → Ready given record′ ids runs rows a
-  stage-ready before h p e =
+  pub stage-ready : {ids runs rows : List ℕ} {a : ImagePlan} {before : List ℕ} → RowsEnough given record′ before → CommitPlanned given record′ ids rows runs a → length rows ≡ length before → Ready given record′ ids runs rows a
+  stage-ready h p e =
       record {
         there = r .there;
         bytes = r .passed .bytes;
         job-bytes = r .job-bytes;
         planned = p;
-        room = λ l. omega (arith, e, rows-few p (r .passed .bytes) (r .job-bytes) (r .destination) (r .sources) l);
+        room = λ l. rw (p .planned .count, e) (h .enough (rw (← (p .bytes)) l));
       }
 
 pub ruleset plan-exits = (stage-passed, stage-ready)
@@ -72,8 +75,8 @@ module _ {given record′ index parts : List ℕ} {h : StageHead} (s : StageHeld
 pub stage-outputs : (given : List ℕ) {record′ ids d t : List ℕ} {p : Plan} → PlannedOutputs record′ ids d p t → OutputsPlanned given record′ ids t p
 stage-outputs given {record′} {ids} {d} o = record { planned = o .planned given .more [] [] (planned-begin given record′ ids d); ready = o .ready }
 
-pub stage-long : {record′ ids d t : List ℕ} {p : Plan} (before : List ℕ) → 12012 ≤ length before → length d ≡ length before → PlannedOutputs record′ ids d p t → 12012 ≤ length t
-stage-long before h e o = omega (arith, e, o .planned [] .same)
+pub stage-long : {given record′ ids d t before : List ℕ} {p : Plan} → RowsEnough given record′ before → length d ≡ length before → PlannedOutputs record′ ids d p t → RowsEnough given record′ t
+stage-long h e o = record { enough = λ l. rw (o .planned [] .same, e) (h .enough l) }
 
 module _ (given record′ ids out : List ℕ) {b : Bool} (e : b ≡ coveredBy (jobGaps record′) (imageOf given) (jobOf record′)) where
   yes : b ≡ true → coveredOutcome given record′ ids (length out) ≡ plannedOutcome given record′ ids (length out)
@@ -95,3 +98,30 @@ module _ (given record′ ids out : List ℕ) {b : Bool} (e : b ≡ coveredBy (j
   uncovered-kept h = sym (ap (lent out) (no h))
 
 pub ruleset cover-exits = (stage-parts, stage-index, stage-head, stage-cover, stage-gaps, stage-outputs, stage-long, covered-report, covered-written, uncovered, uncovered-kept)
+
+-- ---- apply_few and apply_many
+-- two numbers for each output, eleven for each row
+pub few-room : (given : List ℕ) {record′ rows : List ℕ} → rowsAtMost (imageOf given) (jobOf record′) ≤ 64 → 704 ≤ length rows → Room record′ rows
+few-room given {record′} h l = record { enough = omega (arith, outputs-at-most (imageOf given) (jobOf record′)) }
+
+pub few-enough : {given record′ rows : List ℕ} → rowsAtMost (imageOf given) (jobOf record′) ≤ 64 → 704 ≤ length rows → RowsEnough given record′ rows
+few-enough {given} {record′} h l = record { enough = λ _. omega (arith, rows-at-most (imageOf given) (jobOf record′)) }
+
+pub many-room : {record′ rows : List ℕ} → length record′ ≤ 65536 → 12012 ≤ length rows → Room record′ rows
+many-room {record′} h l = record { enough = omega (arith, few-outputs record′) }
+
+pub many-enough : {given record′ rows : List ℕ} → Read given record′ → 12012 ≤ length rows → RowsEnough given record′ rows
+many-enough r l = record { enough = λ s. omega (arith, s, rows-least (r .passed .bytes) (r .job-bytes) (r .destination) (r .sources)) }
+
+-- ---- apply_stages
+module _ {given record′ index parts : List ℕ} {h : StageHead} (s : StageHeld given record′ index parts h) where
+  pub held-runs : IndexHold given (h .runs) index
+  held-runs = s .runs-are
+
+  pub held-parts : PartsHold record′ (h .parts) parts
+  held-parts = s .parts-are
+
+  pub few-rows : {n : ℕ} → n ≡ rowsAtMost (imageOf given) (jobOf record′) → n ≤ 64 → rowsAtMost (imageOf given) (jobOf record′) ≤ 64
+  few-rows e h = rw (← e) h
+
+pub ruleset sized-exits = (held-runs, held-parts, few-rows)

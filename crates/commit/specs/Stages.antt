@@ -2,9 +2,9 @@
 use Prim.Native.Nat.{ℕ, _+_, _*_, _≤_}
 use mathlib.Core.Path.{_≡_}
 use mathlib.Core.Bool.{true}
-use mathlib.Core.List.{List}
+use mathlib.Core.List.{List, [], _∷_, flatMap}
 use lib.Dec.{T}
-use lib.ListN.{length, drop}
+use lib.ListN.{length, getD, drop}
 use Rattle.base.specs.Bytes.{Bytes}
 use Rattle.base.specs.Pick.{pick}
 use Rattle.base.specs.Outcome.{Outcome, check, andThen, writtenTo}
@@ -17,6 +17,8 @@ use Rattle.incremental_progress.specs.Draws.{Drawn, supply}
 use Rattle.incremental_progress.specs.Gaps.{gapCommit}
 use Rattle.incremental_progress.specs.Checks.{destinationIsSource, sourcesThere, plannedInOrder, outputsInOrder}
 use Rattle.incremental_progress.specs.Commit.{drawnImage, applied}
+use Rattle.incremental_progress.specs.Jobs.{outputs}
+use Rattle.incremental_progress.specs.Plans.{drawEntries, imageLength}
 use Rattle.incremental_progress.specs.Laws.{JobPasses}
 use Rattle.commit_index.specs.Index.{imageOf, IndexHold}
 use Rattle.commit_durable.specs.Tables.{jobOf, jobGaps, PartsHold}
@@ -85,6 +87,19 @@ pub record StageHeld (given record′ index parts : List ℕ) (h : StageHead) : 
   pub sources-within : h .from + 4 * h .sources ≤ length record′
   pub parts-are : PartsHold record′ (h .parts) parts
   pub runs-are : IndexHold given (h .runs) index
+
+-- the sum of number c of each row
+unfoldable pub columnSum : ℕ → List (List ℕ) → ℕ
+columnSum c [] = 0
+columnSum c (row ∷ rows) = getD row c 0 + columnSum c rows
+
+-- The most rows that its plan may have: a view may have a piece in each gap, of which there is one more than parts.
+unfoldable pub rowsAtMost : Image → Job → ℕ
+rowsAtMost i j = length (flatMap (λ r. r .views) i) * (length (j .parts) + 1) + length (outputs (j .parts))
+
+-- there is room for all rows, unless check 15 refuses them
+pub record RowsEnough (given record′ rows : List ℕ) : Type 0 where
+  pub enough : imageLength (jobOf record′) (imageOf given) ≤ 65536 → length (drawEntries (jobOf record′) (imageOf given)) * 11 ≤ length rows
 
 -- ---- a commit that is planned
 -- its rows are all there, unless check 15 refuses it

@@ -1,4 +1,5 @@
 // A commit: read once, planned once, written once.
+mod rows;
 mod stages;
 mod write;
 

@@ -1,4 +1,5 @@
 // The stages of a commit after the checks 1 to 7. Each table is lent by the stage before, which made it.
+use crate::rows::rows_at_most;
 use crate::write::finish;
 use base::Written;
 use commit_covered::CoverHead;
@@ -14,7 +15,7 @@ ghost use Rattle.commit_durable.specs.Tables.{jobOf, jobGaps, PartsHold};
 ghost use Rattle.commit_covered.specs.Covered.{coveredBy};
 ghost use Rattle.commit_covered.specs.Kept.{Room};
 ghost use Rattle.commit_covered.specs.Runs.{CoverReady};
-ghost use Rattle.commit.specs.Stages.{plannedOutcome, coveredOutcome, appliedOutcome, progressFault, Read, StageHeld, HeadTold, Given};
+ghost use Rattle.commit.specs.Stages.{plannedOutcome, coveredOutcome, appliedOutcome, progressFault, Read, StageHeld, HeadTold, Given, RowsEnough, rowsAtMost};
 
 // The runs planned, and what follows.
 fn plan_image<'a>(
@@ -28,7 +29,7 @@ fn plan_image<'a>(
     head: PlanHead,
 ) -> Written
     requires { ⌜ Read (now image) (now job) ⌝ ∗ ⌜ IndexHold (now image) (head .runs) (now index) ⌝ ∗ ⌜ HeadHeld (now job) head ⌝ ∗ ⌜ GapsReady (now job) (now gaps) head ⌝ }
-    requires { ⌜ OutputsPlanned (now image) (now job) (now ids) (now rows) (head .outputs) ⌝ ∗ ⌜ 12012 ≤ length (now rows) ⌝ }
+    requires { ⌜ OutputsPlanned (now image) (now job) (now ids) (now rows) (head .outputs) ⌝ ∗ ⌜ RowsEnough (now image) (now job) (now rows) ⌝ }
     ensures { λ r. ⌜ r ≡ reported (plannedOutcome (now (image .entry)) (now (job .entry)) (now (ids .entry)) (length (now (out .entry)))) ⌝ }
     ensures { λ r. ⌜ now (out .exit) ≡ lent (now (out .entry)) (plannedOutcome (now (image .entry)) (now (job .entry)) (now (ids .entry)) (length (now (out .entry)))) ⌝ }
 {
@@ -75,7 +76,7 @@ fn cover_image<'a>(
     out: &mut [u8],
     head: StageHead,
 ) -> Written
-    requires { ⌜ Read (now image) (now job) ⌝ ∗ ⌜ StageHeld (now image) (now job) (now index) (now parts) head ⌝ ∗ ⌜ Room (now job) (now rows) ⌝ ∗ ⌜ 12012 ≤ length (now rows) ⌝ }
+    requires { ⌜ Read (now image) (now job) ⌝ ∗ ⌜ StageHeld (now image) (now job) (now index) (now parts) head ⌝ ∗ ⌜ Room (now job) (now rows) ⌝ ∗ ⌜ RowsEnough (now image) (now job) (now rows) ⌝ }
     ensures { λ r. ⌜ r ≡ reported (coveredOutcome (now (image .entry)) (now (job .entry)) (now (ids .entry)) (length (now (out .entry)))) ⌝ }
     ensures { λ r. ⌜ now (out .exit) ≡ lent (now (out .entry)) (coveredOutcome (now (image .entry)) (now (job .entry)) (now (ids .entry)) (length (now (out .entry)))) ⌝ }
 {
@@ -102,7 +103,25 @@ fn cover_image<'a>(
     Written::Stop(12)
 }
 
-// The same with a table of rows: as many as an image within the ceiling can have.
+// The same with a table of few rows: to clear 12,012 numbers takes longer than a short commit.
+fn apply_few<'a>(
+    image: &'a [u8],
+    job: &'a [u8],
+    ids: &[u8],
+    index: &[usize],
+    parts: &[usize],
+    out: &mut [u8],
+    head: StageHead,
+) -> Written
+    requires { ⌜ Read (now image) (now job) ⌝ ∗ ⌜ StageHeld (now image) (now job) (now index) (now parts) head ⌝ ∗ ⌜ rowsAtMost (imageOf (now image)) (jobOf (now job)) ≤ 64 ⌝ }
+    ensures { λ r. ⌜ r ≡ reported (coveredOutcome (now (image .entry)) (now (job .entry)) (now (ids .entry)) (length (now (out .entry)))) ⌝ }
+    ensures { λ r. ⌜ now (out .exit) ≡ lent (now (out .entry)) (coveredOutcome (now (image .entry)) (now (job .entry)) (now (ids .entry)) (length (now (out .entry)))) ⌝ }
+{
+    let mut rows = [0usize; 704];
+    cover_image(image, job, ids, index, parts, &mut rows, out, head)
+}
+
+// The same with as many rows as an image within the ceiling can have.
 fn apply_many<'a>(
     image: &'a [u8],
     job: &'a [u8],
@@ -118,6 +137,26 @@ fn apply_many<'a>(
 {
     let mut rows = [0usize; 12012];
     cover_image(image, job, ids, index, parts, &mut rows, out, head)
+}
+
+// The stages, with as many rows as they may need.
+fn apply_stages<'a>(
+    image: &'a [u8],
+    job: &'a [u8],
+    ids: &[u8],
+    index: &[usize],
+    parts: &[usize],
+    out: &mut [u8],
+    head: StageHead,
+) -> Written
+    requires { ⌜ Read (now image) (now job) ⌝ ∗ ⌜ StageHeld (now image) (now job) (now index) (now parts) head ⌝ ∗ ⌜ length (now job) ≤ 65536 ⌝ }
+    ensures { λ r. ⌜ r ≡ reported (coveredOutcome (now (image .entry)) (now (job .entry)) (now (ids .entry)) (length (now (out .entry)))) ⌝ }
+    ensures { λ r. ⌜ now (out .exit) ≡ lent (now (out .entry)) (coveredOutcome (now (image .entry)) (now (job .entry)) (now (ids .entry)) (length (now (out .entry)))) ⌝ }
+{
+    if rows_at_most(image, job, index, parts, head.runs, head.parts) <= 64 {
+        return apply_few(image, job, ids, index, parts, out, head);
+    }
+    apply_many(image, job, ids, index, parts, out, head)
 }
 
 // The number of the first of the checks 8 to 11 that fails, or 12.
@@ -160,5 +199,5 @@ pub fn apply<'a>(
         parts: head.parts,
         runs: n,
     };
-    apply_many(image, job, ids, index, parts, out, stage)
+    apply_stages(image, job, ids, index, parts, out, stage)
 }

@@ -121,7 +121,7 @@ module _ {s : List ℕ} {first m k : ℕ} {chain₀ slots₀ chain slots : List 
       keeping-fits l = omega (arith, below-all, few-outputs s)
 
       pub keeping-room : (k + seen) * 2 + 2 ≤ length chain
-      keeping-room = omega (arith, below-all, few-outputs s, p .room .enough)
+      keeping-room = omega (arith, below-all, p .room .enough)
 
       pub keeping-slot : 0 < length slots
       keeping-slot = p .kept .ids .some-slot

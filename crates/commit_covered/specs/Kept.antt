@@ -56,9 +56,9 @@ pub record IdsKept (s : List ℕ) (ts : List Table) (chain slots : List ℕ) : T
   pub lasts : (e : ℕ) → e < length slots → getD slots e 0 ≡ latest (length slots) e (newest [] ts)
 
 -- ---- the outputs of a job
--- A table takes at least 43 bytes: so many rows of two numbers suffice.
+-- two numbers for each
 pub record Room (s chain : List ℕ) : Type 0 where
-  pub enough : length s * 2 ≤ length chain * 43
+  pub enough : length (outputs (jobOf s .parts)) * 2 ≤ length chain
 
 pub record Cleared (slots slots′ : List ℕ) : Type 0 where
   pub same-length : length slots′ ≡ length slots

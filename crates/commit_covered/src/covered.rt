@@ -71,7 +71,8 @@ pub fn views_covered<'a>(
     chain: &[usize],
     slots: &[usize],
 ) -> bool
-    requires { ⌜ ViewsHere (now image) first n ⌝ ∗ ⌜ GapsHold (now job) m (now gaps) ⌝ ∗ ⌜ GapsOrdered (now job) ⌝ ∗ ⌜ IdsKept (now job) (outputs (jobOf (now job) .parts)) (now chain) (now slots) ⌝ }
+    requires { ⌜ ViewsHere (now image) first n ⌝ ∗ ⌜ GapsHold (now job) m (now gaps) ⌝ ∗ ⌜ GapsOrdered (now job) ⌝ }
+    requires { ⌜ IdsKept (now job) (outputs (jobOf (now job) .parts)) (now chain) (now slots) ⌝ }
     ensures { λ r. ⌜ r ≡ viewsCovered (jobGaps (now (job .entry))) (jobOf (now (job .entry)) .parts) (valuesOf (readMany (view .read) n (drop first (now (image .entry))))) ⌝ }
 {
     let mut g = 0;

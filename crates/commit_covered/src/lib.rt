@@ -4,8 +4,5 @@ mod ids;
 mod outputs;
 mod runs;
 
-pub use covered::views_covered;
-pub use outputs::keep_outputs;
 pub use runs::CoverHead;
 pub use runs::image_covered;
-pub use runs::runs_covered;

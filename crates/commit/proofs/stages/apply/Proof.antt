@@ -11,8 +11,8 @@ job-fault-requires c κs = search (needs, apply-exits)
 returns : tie.Need-returns
 returns c = search (needs, apply-exits)
 
-apply-many-requires : tie.Need-apply-many-requires
-apply-many-requires c κs = search (needs, apply-exits)
+apply-stages-requires : tie.Need-apply-stages-requires
+apply-stages-requires c κs = search (needs, apply-exits)
 
 same-length : tie.Need-same-length
 same-length c = search (needs, apply-exits)
@@ -22,4 +22,4 @@ returns-2 c = search (needs, apply-exits)
 
 pub apply-spec : {M : Type 1} → statement M
 apply-spec =
-    tie.close (tie.spec job-fault-requires returns apply-many-requires same-length returns-2)
+    tie.close (tie.spec job-fault-requires returns apply-stages-requires same-length returns-2)

@@ -31,7 +31,7 @@ plan-image-requires c κs =
     let g = c .before .before .before .before .before .before .before .before .before .before .before .before .before .before .gaps-of .ensures in
     let v = c .before .before .before .before .before .before .before .before .before .before .covered .ensures in
     let o = c .before .before .before .before .before .plan-outputs .ensures in
-    (q .0, (q .1 .0 .runs-are, (stage-head (q .1 .0) _ _, (stage-gaps (q .1 .0) (q .0) g _, (stage-outputs _ o, stage-long (c .before .before .before .before .before .before .before .before .before .before .before .before .before .before .before .before .before .before .before .before .before .before .before .args .rows .now) (q .1 .1 .1) (v .1) o)))))
+    (q .0, (q .1 .0 .runs-are, (stage-head (q .1 .0) _ _, (stage-gaps (q .1 .0) (q .0) g _, (stage-outputs _ o, stage-long (q .1 .1 .1) (v .1) o)))))
 
 same-length : tie.Need-same-length
 same-length c = search (needs, cover-exits)

@@ -17,7 +17,7 @@ slice-aggregate-finish c = search (needs, plan-exits)
 finish-requires : tie.Need-finish-requires
 finish-requires c κs =
     let x = c .before .before .before .before .before .before .plan-runs .ensures in
-    stage-ready (search needs) (c .before .before .before .before .before .before .before .before .before .before .before .before .before .before .before .before .args .rows .now) (c .before .before .before .before .before .before .before .before .before .before .before .before .before .before .before .before .pre .1 .1 .1 .1 .1) (x .0) (x .1)
+    stage-ready (search needs) (c .before .before .before .before .before .before .before .before .before .before .before .before .before .before .before .before .pre .1 .1 .1 .1 .1) (x .0) (x .1)
 
 same-length : tie.Need-same-length
 same-length c = search (needs, plan-exits)

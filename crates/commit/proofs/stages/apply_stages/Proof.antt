@@ -1,0 +1,42 @@
+-- `commit::stages::apply_stages` meets its contract.
+-- Assumes nothing.
+use Rattle.commit.proofs.StageExits.{sized-exits}
+use borrow.Author.Needs.{needs}
+use Rattle.commit.proofs.stages.apply_stages.Statement.{statement}
+use Rattle.commit.proofs.stages.apply_stages.Tie as tie
+use Rattle.commit.proofs.rows.rows_at_most.Reads as rows-at-most-reads
+use Rattle.commit.proofs.stages.apply_few.Reads as apply-few-reads
+use Rattle.commit.proofs.stages.apply_many.Reads as apply-many-reads
+
+rows-at-most-requires : tie.Need-rows-at-most-requires
+rows-at-most-requires c κs = search (needs, sized-exits)
+
+apply-few-requires : tie.Need-apply-few-requires
+apply-few-requires c κs = search (needs, sized-exits)
+
+same-length : tie.Need-same-length
+same-length c = search (needs, sized-exits)
+
+returns : tie.Need-returns
+returns c = search (needs, sized-exits)
+
+apply-many-requires : tie.Need-apply-many-requires
+apply-many-requires c κs = search (needs, sized-exits)
+
+same-length-2 : tie.Need-same-length-2
+same-length-2 c = search (needs, sized-exits)
+
+returns-2 : tie.Need-returns-2
+returns-2 c = search (needs, sized-exits)
+
+pub apply-stages-spec : {M : Type 1} → statement M
+apply-stages-spec =
+    tie.close
+    (tie.spec
+    rows-at-most-requires
+    apply-few-requires
+    same-length
+    returns
+    apply-many-requires
+    same-length-2
+    returns-2)
