@@ -89,13 +89,17 @@ module _ {given job ids : List ℕ} {j : Job} {outs : List (List View)} {outputs
       → Each (RowMade given job ids) (placed (flatMap (runBuckets j) rs) vs) rows
       → All (λ r. viewCount j r ≤ 1024) rs
       → length outputs ≡ length (flatMap partEntries (j .parts))
-      → 1024 ≤ places
+      → ((n : ℕ) → n ≤ 1024 → n ≤ length vs + length outputs → n ≤ places)
       → RunsFit given (length outputs) places xs rows
+  unfolding flatMap
   runs-fit places [] [] vs rows h c e f m p = tt
   runs-fit places [] (x ∷ xs) vs rows h c e f m p = absurd h
   runs-fit places (r ∷ rs) [] vs rows h c e f m p = absurd h
   runs-fit places (r ∷ rs) (x ∷ xs) vs rows h c e f m p =
-      let s = split r rs x vs rows (h .0) c e in (
-        run-fits o r (take (length (runDraws j r)) vs) (take (x .rows) rows) b x (h .0) (s .own-count) (s .own) places (f .0) m p,
-        runs-fit places rs xs (drop (length (runDraws j r)) vs) (drop (x .rows) rows) (h .1) (s .rest-count) (s .rest) (f .1) m p,
+      let s = split r rs x vs rows (h .0) c e in
+      let l = length-append (runDraws j r) (flatMap (runDraws j) rs) in (
+        run-fits o r (take (length (runDraws j r)) vs) (take (x .rows) rows) b x (h .0) (s .own-count) (s .own) places (f .0) m
+            (λ k. p (length (runDraws j r) + length outputs) k (omega (arith, c, l))),
+        runs-fit places rs xs (drop (length (runDraws j r)) vs) (drop (x .rows) rows) (h .1) (s .rest-count) (s .rest) (f .1) m
+            (λ n k q. p n k (omega (arith, q, s .rest-count, c, l))),
       )

@@ -101,9 +101,9 @@ module _ {given job ids : List ℕ} {j : Job} {outs : List (List View)} {outputs
               ∙ ap (λ i. run .write (record { id = i; views = mine })) (h .id)
           go false false k l n e = other-made given job ids outputs x rows r k (run-stands b h)
 
-      pub run-fits : (places : ℕ) → viewCount j r ≤ 1024 → length outputs ≡ length (flatMap partEntries (j .parts)) → 1024 ≤ places → RunFits given (length outputs) places x rows
+      pub run-fits : (places : ℕ) → viewCount j r ≤ 1024 → length outputs ≡ length (flatMap partEntries (j .parts)) → (length (runDraws j r) + length outputs ≤ 1024 → length (runDraws j r) + length outputs ≤ places) → RunFits given (length outputs) places x rows
       unfolding runBuckets runDraws viewCount
-      run-fits places f m p = go (eqb (r .id) (j .destination)) (has (r .id) (j .sources)) (h .kind) (h .rows) f e
+      run-fits places f m p = go (eqb (r .id) (j .destination)) (has (r .id) (j .sources)) (h .kind) (h .rows) f p e
         where
           none-else : (k : RunKind) → x .kind ≡ k → runKindNumber k < 2 → x .kind ≡ Destination → DestinationFits (length outputs) places x rows
           none-else k a z c = absurd (let y : runKindNumber k ≡ 2 = ap runKindNumber (sym a ∙ c) in omega arith)
@@ -113,15 +113,16 @@ module _ {given job ids : List ℕ} {j : Job} {outs : List (List View)} {outputs
               → x .kind ≡ pick d Destination (pick s Source Other)
               → x .rows ≡ length (pick (d || s) es [])
               → pick d (length (pick (d || s) es []) + length (flatMap partEntries (j .parts))) (pick s (length (pick (d || s) es [])) (length (r .views))) ≤ 1024
+              → (length (pick (d || s) es []) + length outputs ≤ 1024 → length (pick (d || s) es []) + length outputs ≤ places)
               → Each (RowMade given job ids) (placed (pick (d || s) (map gapBucket gs) []) mine) rows
               → RunFits given (length outputs) places x rows
-          go true s k l f e =
+          go true s k l f p e =
               record {
                 other = λ _. run-copied b h;
                 source = λ _. omega arith;
-                destination = λ _. record { few = omega arith; room = omega arith; small = pieces-bucketed e };
+                destination = λ _. record { few = omega arith; room = omega (arith, p (omega arith)); small = pieces-bucketed e };
               }
-          go false true k l f e =
+          go false true k l f p e =
               record { other = λ _. run-copied b h; source = λ _. omega arith; destination = none-else Source k (omega arith) }
-          go false false k l f e =
+          go false false k l f p e =
               record { other = λ _. run-copied b h; source = λ _. omega arith; destination = none-else Other k (omega arith) }

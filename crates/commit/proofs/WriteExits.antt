@@ -24,7 +24,7 @@ use Rattle.commit_index.specs.Index.{imageOf}
 use Rattle.commit_plan.specs.declared.plan.ImagePlan.{ImagePlan}
 use Rattle.commit_write.specs.Runs.{plannedImage, Writable}
 use Rattle.commit_write.specs.declared.runs.Counts.{Counts}
-use Rattle.commit.specs.Stages.{drawnOutcome, plannedOutcome, Ready, Settled}
+use Rattle.commit.specs.Stages.{drawnOutcome, plannedOutcome, Ready, Settled, OrderLong}
 use Rattle.commit.proofs.PlanDrawn.{new, not-drawn, new-drawn, new-length, new-fits}
 use Rattle.commit.proofs.PlanRows.{Accepted, countsOf}
 use Rattle.commit.proofs.PlanWritten.{planned-is-new, new-writable}
@@ -68,7 +68,13 @@ module _ {given record′ ids runs rows : List ℕ} {a : ImagePlan} (r : Ready g
     pub settled : a .fits ≡ true → a .bytes ≤ 65536 → Settled given record′ ids runs rows a
     settled h k = record { ready = r; enough = e; fits = h; short = k }
 
-pub ruleset finish-exits = (finish-used, finish-used-kept, finish-many, finish-many-kept, finish-long, finish-long-kept, settled)
+pub few-places : {a : ImagePlan} {order : List ℕ} → a .plan .rows ≤ 64 → 64 ≤ length order → OrderLong a order
+few-places h l = record { enough = λ n _ k. omega arith }
+
+pub many-places : {a : ImagePlan} {order : List ℕ} → 1024 ≤ length order → OrderLong a order
+many-places l = record { enough = λ n k _. omega arith }
+
+pub ruleset finish-exits = (few-places, many-places, finish-used, finish-used-kept, finish-many, finish-many-kept, finish-long, finish-long-kept, settled)
 
 -- ---- write_image
 within : (b : Bool) (n : ℕ) → b ≡ true → n ≤ 65536 → (b && leb n 65536) ≡ true
@@ -108,7 +114,7 @@ module _ {given record′ ids runs rows : List ℕ} {a : ImagePlan} (s : Settled
     counts-are : record { runs = n; outputs = a .outputs } ≡ countsOf given a
     counts-are = ap (λ m. record { runs = m; outputs = a .outputs }) (many f)
 
-    pub write-writable : (order out : List ℕ) → 1024 ≤ length order → a .bytes ≤ length out → Writable given record′ ids runs rows order (record { runs = n; outputs = a .outputs }) out
+    pub write-writable : (order out : List ℕ) → OrderLong a order → a .bytes ≤ length out → Writable given record′ ids runs rows order (record { runs = n; outputs = a .outputs }) out
     write-writable order out h k = subst (λ (c : Counts). Writable given record′ ids runs rows order c out) (sym counts-are) (new-writable accepted order out h k)
 
     pub write-stands : (out : List ℕ) {o : List ℕ} → a .bytes ≤ length out → o ≡ splice out 0 (plannedImage given record′ ids runs rows (record { runs = n; outputs = a .outputs })) → o ≡ lent out (plannedOutcome given record′ ids (length out))

@@ -110,6 +110,10 @@ pub record Ready (given record′ ids runs rows : List ℕ) (a : ImagePlan) : Ty
   pub planned : CommitPlanned given record′ ids rows runs a
   pub room : a .bytes ≤ 65536 → a .plan .rows * 11 ≤ length rows
 
+-- A table for the order of the destination's rows: it has at most 1,024, and no more than there are.
+pub record OrderLong (a : ImagePlan) (order : List ℕ) : Type 0 where
+  pub enough : (n : ℕ) → n ≤ 1024 → n ≤ a .plan .rows → n ≤ length order
+
 -- and passed the checks 14 and 15
 pub record Settled (given record′ ids runs rows : List ℕ) (a : ImagePlan) : Type 0 where
   pub ready : Ready given record′ ids runs rows a

@@ -38,7 +38,7 @@ fn plan_image<'a>(
     finish(image, job, ids, &runs, rows, out, a)
 }
 
-// Check 12, with a table for the entries of the outputs' ids.
+// Check 12, with a table for the entries of the outputs' ids, of which few rows can hold few.
 fn covered<'a>(
     image: &'a [u8],
     job: &'a [u8],
@@ -52,6 +52,19 @@ fn covered<'a>(
     ensures { λ r. ⌜ r ≡ coveredBy (jobGaps (now (job .entry))) (imageOf (now (image .entry))) (jobOf (now (job .entry))) ⌝ }
     ensures { λ _. ⌜ length (now (rows .exit)) ≡ length (now (rows .entry)) ⌝ }
 {
+    if rows.len() <= 704 {
+        let mut slots = [0usize; 64];
+        return commit_covered::image_covered(
+            image,
+            job,
+            index,
+            parts,
+            gaps,
+            rows,
+            &mut slots,
+            head,
+        );
+    }
     let mut slots = [0usize; 1024];
     commit_covered::image_covered(image, job, index, parts, gaps, rows, &mut slots, head)
 }

@@ -6,7 +6,7 @@ ghost use mathlib.Core.Path.{_≡_};
 ghost use Prim.Native.Nat.{_≤_};
 ghost use lib.ListN.{length};
 ghost use Rattle.base.specs.Outcome.{lent, reported};
-ghost use Rattle.commit.specs.Stages.{plannedOutcome, Ready, Settled};
+ghost use Rattle.commit.specs.Stages.{plannedOutcome, Ready, Settled, OrderLong};
 
 // Check 16, and then the new image. The order of the destination's rows is made in a table that is lent.
 fn write_image<'a>(
@@ -19,7 +19,7 @@ fn write_image<'a>(
     out: &mut [u8],
     a: ImagePlan,
 ) -> Written
-    requires { ⌜ Settled (now image) (now job) (now ids) (now runs) (now rows) a ⌝ ∗ ⌜ 1024 ≤ length (now order) ⌝ }
+    requires { ⌜ Settled (now image) (now job) (now ids) (now runs) (now rows) a ⌝ ∗ ⌜ OrderLong a (now order) ⌝ }
     ensures { λ r. ⌜ r ≡ reported (plannedOutcome (now (image .entry)) (now (job .entry)) (now (ids .entry)) (length (now (out .entry)))) ⌝ }
     ensures { λ r. ⌜ now (out .exit) ≡ lent (now (out .entry)) (plannedOutcome (now (image .entry)) (now (job .entry)) (now (ids .entry)) (length (now (out .entry)))) ⌝ }
 {
@@ -53,6 +53,10 @@ pub fn finish<'a>(
     if plan.enough {
         if a.fits {
             if a.bytes <= 65536 {
+                if plan.rows <= 64 {
+                    let mut order = [0usize; 64];
+                    return write_image(image, job, ids, runs, rows, &mut order, out, a);
+                }
                 let mut order = [0usize; 1024];
                 return write_image(image, job, ids, runs, rows, &mut order, out, a);
             }

@@ -4,7 +4,6 @@ use Rattle.commit.proofs.RowExits.{most-exits}
 use borrow.Author.Needs.{needs}
 use Rattle.commit.proofs.rows.rows_at_most.Statement.{statement}
 use Rattle.commit.proofs.rows.rows_at_most.Tie as tie
-use Rattle.commit.proofs.rows.column_sum.Reads as column-sum-reads
 
 column-sum-requires : tie.Need-column-sum-requires
 column-sum-requires c κs = search (needs, most-exits)

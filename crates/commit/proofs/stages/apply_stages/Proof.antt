@@ -4,9 +4,6 @@ use Rattle.commit.proofs.StageExits.{sized-exits}
 use borrow.Author.Needs.{needs}
 use Rattle.commit.proofs.stages.apply_stages.Statement.{statement}
 use Rattle.commit.proofs.stages.apply_stages.Tie as tie
-use Rattle.commit.proofs.rows.rows_at_most.Reads as rows-at-most-reads
-use Rattle.commit.proofs.stages.apply_few.Reads as apply-few-reads
-use Rattle.commit.proofs.stages.apply_many.Reads as apply-many-reads
 
 rows-at-most-requires : tie.Need-rows-at-most-requires
 rows-at-most-requires c κs = search (needs, sized-exits)

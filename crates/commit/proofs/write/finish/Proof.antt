@@ -17,6 +17,15 @@ same-length c = search (needs, finish-exits)
 returns : tie.Need-returns
 returns c = search (needs, finish-exits)
 
+slice-aggregate-write-image-2 : tie.Need-slice-aggregate-write-image-2
+slice-aggregate-write-image-2 c = search (needs, finish-exits)
+
+write-image-requires-2 : tie.Need-write-image-requires-2
+write-image-requires-2 c κs = search (needs, finish-exits)
+
+same-length-2 : tie.Need-same-length-2
+same-length-2 c = search (needs, finish-exits)
+
 returns-2 : tie.Need-returns-2
 returns-2 c = search (needs, finish-exits)
 
@@ -26,6 +35,9 @@ returns-3 c = search (needs, finish-exits)
 returns-4 : tie.Need-returns-4
 returns-4 c = search (needs, finish-exits)
 
+returns-5 : tie.Need-returns-5
+returns-5 c = search (needs, finish-exits)
+
 pub finish-spec : {M : Type 1} → statement M
 finish-spec =
     tie.close
@@ -34,6 +46,10 @@ finish-spec =
     write-image-requires
     same-length
     returns
+    slice-aggregate-write-image-2
+    write-image-requires-2
+    same-length-2
     returns-2
     returns-3
-    returns-4)
+    returns-4
+    returns-5)
