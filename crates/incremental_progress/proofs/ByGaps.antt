@@ -14,10 +14,9 @@ use Rattle.comparable_range.proofs.ByCuts.{passes-≺}
 use Rattle.incremental_progress.specs.Intervals.{Interval, listed, startBound, endBound, cutOut}
 use Rattle.records.specs.Values.{View, Part}
 use Rattle.manifest.specs.Ranges.{effective}
-use Rattle.manifest.specs.Checks.{all, keysInOrder, tablePasses, jobChecks}
+use Rattle.manifest.specs.Checks.{all, tablePasses}
 use Rattle.manifest.proofs.ViewRanges.{startsPlain, meets-alone, effective-start-is-held}
 use Rattle.incremental_progress.specs.Parts.{plannedInterval, durable, intervals}
-use Rattle.incremental_progress.specs.Checks.{plannedFrom, plannedInOrder, outputsInside, outputsInOrder}
 use Rattle.incremental_progress.specs.Entries.{viewEntries, runEntries}
 use Rattle.incremental_progress.specs.Gaps.{void, gapTo, lastGap, gapFrom, gapsFrom, gaps, pieces, gapEntries}
 use Rattle.base.specs.Lists.{All-map, flatMap-append, flatMap-alike, map-append}
@@ -25,7 +24,7 @@ use Rattle.incremental_progress.proofs.Span.{Span, keep, until, since, 
 use Rattle.incremental_progress.proofs.Cutting.{Proper, cutSpans}
 use Rattle.incremental_progress.proofs.Subtraction.{cuts, cuts-injective, spanOf, intersect-cuts, cut-out-cuts}
 use Rattle.incremental_progress.proofs.Job.{fromCut, toCut, Planned, no-parts, with-part, Status, finished, nothing, ongoing, status}
-use Rattle.incremental_progress.proofs.Checks.{all-each, job-parts}
+use Rattle.incremental_progress.proofs.Checks.{all-each}
 use Rattle.incremental_progress.proofs.GapLaws.{Ascends, none-left, then}
 
 -- ---- spans that ascend
@@ -126,18 +125,6 @@ module _ (r : Range) (k : Key) (e : r .start ≡ included k) where
       cuts-injective _ _ (rw (cut-out-cuts, gaps-cuts (some unbounded) ivs, ← cut-by-gaps (cuts r) (spans-ascend a), whole))
 
 -- ---- the intervals of parts that pass the checks 4, 5, 10 and 11
--- the four as tests
-pub planned-parts :
-    (ps : List Part)
-    → all (λ p. nonEmpty (p .planned)) ps ≡ true
-    → all (λ p. all keysInOrder (p .outputs)) ps ≡ true
-    → plannedFrom below ps ≡ true
-    → all outputsInside ps ≡ true
-    → Planned below ps
-unfolding jobChecks plannedInOrder outputsInOrder
-planned-parts ps ranges tables planned outputs =
-    job-parts (record { destination = 0; sources = []; parts = ps }) (record { ranges = ranges; tables = tables; planned = planned; outputs = outputs })
-
 ascends-sooner : {c d : Cut} {ivs : List Interval} → c ≼ d → AscendIntervals d ivs → AscendIntervals c ivs
 ascends-sooner h none-left = none-left
 ascends-sooner h (then k p a) = then (≼-trans h k) p a

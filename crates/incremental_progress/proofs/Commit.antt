@@ -211,10 +211,6 @@ standing {first} (later-accepted {runs} i j c p l) =
     (commit-is-ideal j runs p ∙ ap (ideal j) e ∙ ideal-ideal i j l (h .1 .parts) (q .parts) first (h .1 .ordered) ∙ sym (commit-is-ideal j first q), q)
 
 -- ---- what stands, over values
--- With none accepted the first image stands.
-pub none-accepted : {first runs : Image} → Commits first runs none → runs ≡ first
-none-accepted c = standing c
-
 -- The image after the list is the one that the last accepted record, committed alone, makes of the first image.
 pub as-if-alone : {first runs : Image} (j : Job) → Commits first runs (some j) → runs ≡ markedRuns j first
 as-if-alone j c = standing c .0

@@ -91,9 +91,6 @@ recut (begun {es} {ls} p q g) rs = rw (commute-cut es rs q (earlier-from g)) (re
 recut (grown {es} {ls} p q r g) rs =
     rw (commute-cut es _ (≼-trans q r) (earlier-from g), absorb-all rs q r) (recut g _)
 
-pub earlier-proper : {c : Cut} {es ls : List Span} → Grown c es ls → All Proper es
-earlier-proper {es} g = All-map (λ j f. f .1) es (earlier-from g)
-
 pub later-proper : {c : Cut} {es ls : List Span} → Grown c es ls → All Proper ls
 later-proper done = tt
 later-proper (begun p q g) = (q, later-proper g)

@@ -10,7 +10,7 @@ use Rattle.records.specs.Values.{View, Part}
 use Rattle.manifest.specs.Ranges.{effective}
 use Rattle.incremental_progress.specs.Views.{start}
 use Rattle.incremental_progress.specs.Intervals.{Interval, listed}
-use Rattle.incremental_progress.specs.Parts.{durable, intervals, openKey}
+use Rattle.incremental_progress.specs.Parts.{durable, openKey}
 use Rattle.incremental_progress.specs.Draws.{Ten, Drawn, used-up, got, next, draw, drawnView, fill, fillAll}
 use Rattle.incremental_progress.specs.Entries.{Entry, whole, cut, outputEntries, partEntries}
 use Rattle.incremental_progress.proofs.Marked.{marked}
@@ -89,19 +89,3 @@ pub fill-parts : (ps : List Part) (s : List Ten) → fillAll (flatMap partEntrie
 unfolding fillParts flatMap fillAll flatten
 fill-parts [] s = refl
 fill-parts (p ∷ ps) s = simp (fill-append (partEntries p), fill-parts ps, next-next) (fill-part p s (λ s. fillParts ps s))
-
--- one list of outputs for each interval
-pub parts-length : (ps : List Part) (s : List Ten) (outs : List (List View)) (t : List Ten) → fillParts ps s ≡ got outs t → length outs ≡ length (intervals ps)
-unfolding fillParts intervals flatMap
-parts-length [] s outs t e = let f : [] ≡ outs = cc in rw (← f)
-parts-length (p ∷ ps) s outs t e =
-    let h = through (fillAll (partEntries p) s) _ outs t e in
-    let k = through (fillParts ps (h .rest)) _ outs t (h .second) in
-    let g = k .second in
-    let f : ofInterval (durable p) (h .value) ++ k .value ≡ outs = cc in
-    rw (← f) (go (durable p) (h .value) (k .value) (parts-length ps (h .rest) (k .value) (k .rest) (k .first)))
-  where
-    go : (o : Option Interval) (vs : List View) (rest : List (List View)) → length rest ≡ length (intervals ps)
-        → length (ofInterval o vs ++ rest) ≡ length (listed o ++ intervals ps)
-    go none vs rest e = e
-    go (some iv) vs rest e = rw e

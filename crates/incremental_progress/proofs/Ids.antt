@@ -21,7 +21,7 @@ use Rattle.incremental_progress.specs.Intervals.{Interval, cutOut}
 use Rattle.incremental_progress.specs.Views.{start, sameRange, shown}
 use Rattle.incremental_progress.specs.Ids.{timeLength, timeOf}
 use Rattle.incremental_progress.specs.Entries.{whole, cut}
-use Rattle.incremental_progress.proofs.Marked.{marked, piece, retained, cutRun, cutDestination, published, markedViews, markedRuns, blank, Fills, kept, drawn, Each, no-more, and, same-id, FillsImage, AllClosed, none-left, one-more, ClosedImage, no-runs, one-run}
+use Rattle.incremental_progress.proofs.Marked.{marked, piece, retained, cutRun, cutDestination, published, markedViews, markedRuns, blank, Fills, kept, drawn, Each, no-more, and, same-id, FillsImage, AllClosed, none-left, one-more, ClosedImage, one-run}
 use Rattle.incremental_progress.specs.Parts.{intervals}
 use Rattle.incremental_progress.specs.Jobs.{isOutput, others}
 use Rattle.incremental_progress.specs.Checks.{covered, outputViewsCovered}
@@ -225,10 +225,6 @@ pub closed-views : {ms vs : List View} → Each Fills ms vs → AllClosed ms →
 closed-views no-more none-left = refl
 closed-views (and kept a) (one-more c d) = rw (closed-views a d)
 closed-views (and (drawn {v}) a) (one-more c d) = let e = c .full in let h = time-short (v .id) in absurd (omega arith)
-
-pub closed-image : {ms rs : Image} → FillsImage ms rs → ClosedImage ms → rs ≡ ms
-closed-image no-more no-runs = refl
-closed-image (and (same-id a) b) (one-run c d) = rw (closed-views a c, closed-image b d)
 
 -- the runs beside the job
 run-beside : (j : Job) (n : ℕ) {vs ws : List View} (r : Run) → Each Fills vs ws → AllClosed (r .views)

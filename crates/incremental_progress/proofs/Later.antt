@@ -5,16 +5,15 @@ use mathlib.Core.Bool.{true≢false}
 use mathlib.Core.Option.{some}
 use mathlib.Core.List.{List, [], _∷_, _++_, map, flatMap, append-nil}
 use Rattle.key.specs.Order.{Key}
-use Rattle.comparable_range.specs.Range.{Range}
 use Rattle.comparable_range.specs.Cut.{Cut, before, _≼_, _≺_}
 use Rattle.comparable_range.proofs.Cut.{≼-trans, ≼-refl, ≺-≼, ≼-not-≺, ≺-≼-trans, before-≺-after}
 use Rattle.records.specs.Values.{Table, Part}
-use Rattle.incremental_progress.specs.Intervals.{cutOut, listed}
+use Rattle.incremental_progress.specs.Intervals.{listed}
 use Rattle.incremental_progress.specs.Parts.{plannedInterval, lastWritten, durable, intervals, LaterPart, LaterParts, same-end, part-by-part}
 use Rattle.base.specs.Lists.{All, All-left, map-append}
 use Rattle.incremental_progress.proofs.Span.{Span}
 use Rattle.incremental_progress.proofs.Cutting.{Grown, done, begun, grown}
-use Rattle.incremental_progress.proofs.Subtraction.{spanOf, cut-out-later}
+use Rattle.incremental_progress.proofs.Subtraction.{spanOf}
 use Rattle.incremental_progress.proofs.Job.{fromCut, toCut, Ascending, Planned, with-part, Lies, Written, written, Status, finished, nothing, ongoing, status, none-some}
 
 grown-sooner : {c d : Cut} {es ls : List Span} → c ≼ d → Grown d es ls → Grown c es ls
@@ -78,8 +77,3 @@ later-self (p ∷ ps) = part-by-part (record { planned = refl; more = []; begins
 
 pub intervals-self : {c : Cut} {ps : List Part} → Planned c ps → Grown c (map spanOf (intervals ps)) (map spanOf (intervals ps))
 intervals-self {ps} a = intervals-grown a a (later-self ps)
-
--- Cutting by an earlier record's intervals and then by a later one's is cutting by the later one's, bound for bound.
-pub cut-out-later-record : {c : Cut} (ps qs : List Part) → Planned c ps → Planned c qs → LaterParts ps qs → (rs : List Range)
-    → cutOut (intervals qs) (cutOut (intervals ps) rs) ≡ cutOut (intervals qs) rs
-cut-out-later-record ps qs a b l rs = cut-out-later (intervals ps) (intervals qs) (intervals-grown a b l) rs

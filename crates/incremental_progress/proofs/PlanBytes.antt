@@ -31,7 +31,7 @@ use Rattle.incremental_progress.proofs.Filling.{Full, parts-full, throu
 use Rattle.incremental_progress.proofs.Drawing.{IsTen, supply-tens, Of, draw-ten}
 use Rattle.incremental_progress.proofs.Patterned.{view-bytes}
 use Rattle.incremental_progress.proofs.PlacedSizes.{total}
-use Rattle.incremental_progress.proofs.PlanSizes.{map-each, same-total, weighs, image-weighs, commit-counts}
+use Rattle.incremental_progress.proofs.PlanSizes.{map-each, weighs, image-weighs, commit-counts}
 
 -- ---- how many bytes
 abbrev viewSize : View → ℕ
@@ -86,12 +86,6 @@ filled-sizes (o ∷ es) s vs t c a e =
     let f : h .value ∷ k .value ≡ vs = cc in
     let x = fill-size o s (h .value) (h .rest) (c .0) a (h .first) in
     rw (← f, x .0, filled-sizes es (h .rest) (k .value) (k .rest) (c .1) (x .1) (k .first))
-
--- Entries take as many bytes with the ids that are drawn as with the old ones.
-pub filled-size : (es : List Entry) (s : List Ten) (vs : List View) (t : List Ten)
-    → All Full es → All IsTen s → fillAll es s ≡ got vs t → length (viewBytes vs) ≡ length (entryBytes es)
-filled-size es s vs t c a e =
-    sym (views-size vs) ∙ same-total viewSize entrySize vs es (filled-sizes es s vs t c a e) ∙ entries-size es
 
 -- ---- entries of views with whole ids
 gap-full : (gs : List Range) (v : View) → Closed v → All Full (gapEntries gs v)

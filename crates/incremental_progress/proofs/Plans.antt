@@ -4,12 +4,11 @@ use Prim.Native.Nat.{_+_}
 use native.Mathlib.Omega.{arith}
 use mathlib.Core.Path.{_≡_, refl, sym, ap, _∙_}
 use mathlib.Core.Bool.{Bool, true, false, _||_}
-use mathlib.Core.List.{List, [], _∷_, _++_, flatMap, append-assoc, append-nil}
+use mathlib.Core.List.{List, [], _∷_, _++_, flatMap}
 use lib.Dec.{eqb}
-use lib.ListN.{length, take, drop, length-append}
-use lib.Seq.{take-at, drop-at, drop-drop}
+use lib.ListN.{length, take, drop}
+use lib.Seq.{take-at, drop-at}
 use Rattle.base.specs.Pick.{pick}
-use Rattle.base.specs.Lists.{flatMap-append}
 use Rattle.records.specs.Values.{View, Run, Image, Part, Job}
 use Rattle.manifest.specs.Checks.{has}
 use Rattle.incremental_progress.specs.Parts.{durable}
@@ -100,20 +99,6 @@ pub commit-used-up : (j : Job) (i : Image) (s : List Ten) → fillAll (drawEntri
 commit-used-up j i s e = commit-planned j i s ∙ ap (λ d. next d (λ vs s. got (newImage j i vs) s)) e
 
 -- ---- one run more
-pub entries-more : (j : Job) (i : Image) (r : Run) → drawEntries j (i ++ (r ∷ [])) ≡ drawEntries j i ++ runDraws j r
-unfolding drawEntries flatMap
-entries-more j i r =
-    ap (λ l. flatMap partEntries (j .parts) ++ l) (flatMap-append (runDraws j) i (r ∷ []) ∙ ap (λ l. flatMap (runDraws j) i ++ l) (append-nil (runDraws j r)))
-    ∙ sym (append-assoc (flatMap partEntries (j .parts)) (flatMap (runDraws j) i) (runDraws j r))
-
-pub runs-more : (j : Job) (outs : List (List View)) (rs : List Run) (r : Run) (vs : List View)
-    → newRuns j outs (rs ++ (r ∷ [])) vs
-    ≡ newRuns j outs rs vs ++ (record { id = r .id; views = newViews j outs r (take (length (runDraws j r)) (drop (length (flatMap (runDraws j) rs)) vs)) } ∷ [])
-unfolding newRuns flatMap
-runs-more j outs [] r vs = refl
-runs-more j outs (q ∷ rs) r vs =
-    rw (runs-more j outs rs r (drop (length (runDraws j q)) vs), drop-drop (length (flatMap (runDraws j) rs)) (length (runDraws j q)) vs, length-append (runDraws j q) (flatMap (runDraws j) rs))
-
 pub length-more : (j : Job) (rs : List Run) (r : Run) → runsLength j (rs ++ (r ∷ [])) ≡ runsLength j rs + (6 + viewsLength j r)
 unfolding runsLength
 length-more j [] r = omega arith

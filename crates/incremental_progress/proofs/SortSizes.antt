@@ -1,4 +1,4 @@
--- Sorting keeps how many there are, and how many bytes they are written in.
+-- Sorting keeps how many bytes they are written in.
 -- Assumes nothing.
 use Prim.Native.Nat.{ℕ, _+_}
 use native.Mathlib.Omega.{arith}
@@ -7,17 +7,12 @@ use mathlib.Core.Logic.{inl, inr}
 use mathlib.Core.List.{List, [], _∷_, _++_}
 use lib.ListN.{length, length-append}
 use Rattle.base.specs.Sort.{insert, sort}
-use Rattle.base.specs.SortLaws.{length-sort}
 use Rattle.comparable_range.specs.Cut.{Cut, cutAtMost}
 use Rattle.comparable_range.proofs.Cut.{order}
 use Rattle.records.specs.Form.{writeMany}
 use Rattle.incremental_progress.proofs.Sort.{insert-first, insert-next}
 
 module _ {A : Type 0} (start : A → Cut) where
-  pub sort-length : (xs : List A) → length (sort cutAtMost start xs) ≡ length xs
-  sort-length xs = length-sort cutAtMost start xs
-
-  -- ---- the bytes
   module _ (w : A → List ℕ) where
     insert-bytes : (x : A) (ys : List A) → length (writeMany w (insert cutAtMost start x ys)) ≡ length (w x) + length (writeMany w ys)
     unfolding insert writeMany

@@ -171,10 +171,3 @@ within-parts {r} x e = let h = both-true (cutAtMost (r .from) (before x)) (cutAt
 pub within-yes : {r : Span} (x : Key) → r .from ≼ before x → after x ≼ r .to → within r x ≡ true
 unfolding within
 within-yes x h k = rw (h .holds, k .holds)
-
-pub within-not : {r : Span} (x : Key) → (r .from ≼ before x → after x ≼ r .to → ⊥) → within r x ≡ false
-within-not {r} x f = go (within r x) refl
-  where
-    go : (b : Bool) → within r x ≡ b → within r x ≡ false
-    go true e = let h = within-parts x e in absurd (f (h .0) (h .1))
-    go false e = e

@@ -16,7 +16,7 @@ use Rattle.key.proofs.Linear.{cmp-self}
 use Rattle.comparable_range.specs.Range.{Range, cmpBound, nonEmpty, holds, overlap, intersectSides, meets}
 use Rattle.comparable_range.specs.Cut.{Cut, cmpCut, _≼_, _≺_, startCut, endCut}
 use Rattle.comparable_range.proofs.Cut.{cut-order-is-total, ≼-trans, ≼-refl, ≼-antisym}
-use Rattle.comparable_range.proofs.Lattice.{later-right, sooner-right, sooner-≼-left, sooner-≼-right, ≼-later-left, ≼-later-right}
+use Rattle.comparable_range.proofs.Lattice.{later-right, sooner-right, sooner-≼-left, ≼-later-left}
 use Rattle.comparable_range.proofs.ByCuts.{cmp-start, cmp-end, ≺-passes, start-side-cut, end-side-cut}
 use Rattle.comparable_range.proofs.Unions.{meets-is}
 use Rattle.records.specs.Values.{Table, View}
@@ -103,19 +103,6 @@ effective-piece v r h =
 -- What is retained of a view meets its table's own range, so that stop 13 never arises.
 pub retained-meets : (v : View) (r : Range) → Inside (cuts r) (cuts (effective v)) → meets (intersectSides (own (v .table)) r) ≡ true
 retained-meets v r h = meets-is (own (v .table)) r ∙ ap (λ (q : Range). nonEmpty q) (overlap-inside v r h) ∙ ≺-passes (r .start) (r .end) (h .runs)
-
--- The Rust's second way to keep a view, a range equal to its visible range, is never taken: such a range is all that the view shows.
-pub not-just-visible : (v : View) (r : Range) → v .visible ≡ some r → Inside (cuts r) (cuts (effective v)) → r ≡ effective v
-unfolding effective
-not-just-visible v r e h = go (v .visible) e h
-  where
-    go : (o : Option Range) → o ≡ some r → Inside (cuts r) (cuts (cutBy o (own (v .table)))) → r ≡ cutBy o (own (v .table))
-    go none e h = cc
-    go (some q) e h =
-        let f : q ≡ r = cc in
-        same-cuts r (overlap (own (v .table)) q)
-        (≼-antisym (rw (f, start-side-cut) (≼-later-right _ _)) (h .starts))
-        (≼-antisym (h .ends) (rw (f, end-side-cut) (sooner-≼-right _ _)))
 
 -- the time of a time is that time, so a piece of a piece keeps the view's time
 pub time-again : (id : ViewId) → onlyTime (onlyTime id) ≡ onlyTime id

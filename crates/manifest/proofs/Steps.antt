@@ -4,8 +4,8 @@ use Prim.Native.Nat.{ℕ, _<_, _≤_}
 use mathlib.Core.Path.{_≡_, refl, sym, ap, _∙_}
 use mathlib.Core.Bool.{Bool, true, false, not, _&&_, _||_, and-true, and-assoc, or-assoc, or-false}
 use mathlib.Core.List.{List, [], _∷_, _++_, map, map-append}
-use lib.Dec.{eqb, ltb, leb}
-use borrow.Author.Tests.{leb-true, eqb-true, eqb-false, eq-eqb, ne-eqb, lt-ltb, le-ltb}
+use lib.Dec.{eqb, ltb}
+use borrow.Author.Tests.{eqb-true, eqb-false, eq-eqb, ne-eqb, lt-ltb, le-ltb}
 use Rattle.base.specs.Pick.{pick, and-first, and-second}
 use Rattle.base.specs.Outcome.{Outcome, stop}
 use Rattle.key.specs.Order.{atMost}
@@ -68,10 +68,6 @@ module _ {A : Type 0} (c : Checks) (rest : Outcome A) where
 
   pub fault-passes : 8 ≤ faultOf c → checked c rest ≡ rest
   fault-passes h = checked-is ∙ ap (λ t. pick t (stop (faultOf c)) rest) (le-ltb (faultOf c) 8 h)
-
-pub fault-most : (c : Checks) → faultOf c ≤ 8
-unfolding faultOf
-fault-most c = leb-true _ 8 (at-checks (λ c. leb (faultOf c) 8) refl c)
 
 -- ---- one more in a list
 pub all-more : {A : Type 0} (p : A → Bool) (seen : List A) (a : A) → all p (seen ++ (a ∷ [])) ≡ (all p seen && p a)

@@ -56,8 +56,6 @@ module _ {A : Type 0} {f : List ℕ → Got A} {s : List ℕ} {from n left at : 
       p .rest ∙ rw (z, append-nil)
 
 -- ---- values that are known to be there
-pub found-all : {A : Type 0} (g : Got (List A)) → T (isGot g) → (bs : List A) (r : List ℕ) → g ≡ got bs r → valuesOf g ≡ bs
-found-all g t bs r e = rw e
 
 -- what is left, after a value
 pub record Ahead {A : Type 0} (g : Got (List A)) (seen : List A) (a : A) : Type 0 where

@@ -107,9 +107,6 @@ module _ (s : List ℕ) (at : ℕ) {r : RunSpan} (f : RunThere s (runHead .read 
   found : RunFound s (runHead .read (drop at s)) (At (r .id) (r .views) (r .first))
   found = record { meaning = sym (f .meaning); inside = f .inside }
 
-  pub there-opened : run .read (drop at s) ≡ andThen (readMany (view .read) (r .views) (drop (r .first) s)) (λ vs q. got (runOf (r .id) vs) q)
-  there-opened = run-opened s at found refl
-
   pub there-views : T (isGot (run .read (drop at s))) → T (isGot (readMany (view .read) (r .views) (drop (r .first) s)))
   there-views t = views-there s at found refl t
 

@@ -13,7 +13,6 @@ pub use blocks::AnchorRead;
 pub use blocks::BlockRead;
 pub use blocks::anchor_at;
 pub use blocks::block_at;
-pub use fields::FlagRead;
 pub use fields::number_here;
 pub use ids::TableId;
 pub use ids::ViewId;
