@@ -18,10 +18,6 @@ use Rattle.commit_gaps.specs.declared.piece.Piece.the-variants.{Whole, C
 use Rattle.commit_gaps.specs.Found.{PieceIs, all-of-it, part-of-it, Reached}
 use Rattle.commit_gaps.proofs.Passing.{behind-pieces, behind-met, behind-later}
 
--- no gap is behind at first
-pub none-behind : (b : Bound) (s : List ℕ) → Behind b (take 0 (jobGaps s))
-none-behind b s = tt
-
 -- the gaps that a start has passed are behind each later start
 pub still-behind : (b c : Bound) {s : List ℕ} {m g : ℕ} → startCut b ≼ startCut c → Reached b s m g → Behind c (take g (jobGaps s))
 still-behind b c {s} {g} h p = behind-later b c (take g (jobGaps s)) h (p .behind)

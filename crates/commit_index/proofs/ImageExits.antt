@@ -3,7 +3,7 @@
 use Prim.Native.Nat.{ℕ, suc, _+_, _*_, _-_, _^_, _≤_, _<_}
 use native.Mathlib.Omega.{arith}
 use native.Mathlib.Numerals.{add-one}
-use native.Mathlib.Nat.{add-zero, le-antisymm}
+use native.Mathlib.Nat.{le-antisymm}
 use mathlib.Core.Path.{_≡_, refl, sym, ap, _∙_}
 use mathlib.Core.Bool.{Bool, true, false, not, _||_}
 use mathlib.Core.List.{List, [], _∷_, _++_, map}
@@ -16,36 +16,26 @@ use borrow.Author.Tests.{leb-true, eq-eqb, ne-eqb}
 use Rattle.base.specs.Outcome.{answer, check}
 use Rattle.base.specs.Rows.{RowsHold, hold-none, hold-more}
 use Rattle.base.specs.Splice.{splice, spliced-length}
-use Rattle.key.specs.Order.{atMost}
-use Rattle.comparable_range.specs.Range.{Range, unbounded, cmpBound}
-use Rattle.comparable_range.specs.declared.Kind.the-variants.{Unbounded}
 use Rattle.format.specs.Got.{Got, got, stop, andThen}
 use Rattle.format.specs.Number.{readNumber}
-use Rattle.format.specs.Range.{boundIn, BoundInside}
-use Rattle.format.specs.declared.range.BoundSpan.{BoundSpan}
-use Rattle.format.specs.declared.span.RangeSpan.{RangeSpan}
 use Rattle.records.specs.Form.{readMany, taken}
 use Rattle.records.specs.Found.{isGot}
-use Rattle.records.specs.Values.{View, Run}
-use Rattle.records.specs.Layouts.{view, run, image, upTo, countOf}
-use Rattle.records.specs.Spans.{viewIn, ViewInside, ViewFound, RunFound, runHead, CountFound}
-use Rattle.records.specs.declared.views.ViewSpan.{ViewSpan}
-use Rattle.records.specs.declared.views.ViewRead.{ViewRead}
-use Rattle.records.specs.declared.views.ViewRead.the-variants.{At as ViewAt, Stop as ViewStop}
+use Rattle.records.specs.Values.{Run}
+use Rattle.records.specs.Layouts.{view, run, upTo, countOf}
+use Rattle.records.specs.Spans.{RunFound, runHead, CountFound}
 use Rattle.records.specs.declared.runs.RunRead.{RunRead}
 use Rattle.records.specs.declared.runs.RunRead.the-variants.{At as HeadAt, Stop as HeadStop}
 use Rattle.records.specs.declared.runs.CountRead.{CountRead}
-use Rattle.records.specs.declared.runs.CountRead.the-variants.{At as CountAt, Stop as CountStop}
+use Rattle.records.specs.declared.runs.CountRead.the-variants.{At as CountAt}
 use Rattle.records.proofs.Many.{Reading, begin, stopped, onward, all-read}
 use Rattle.records.proofs.FieldExits.{number-is}
 use Rattle.records.proofs.Forms.{readMany-length}
-use Rattle.records.proofs.HeadExits.{runOf, image-is}
+use Rattle.records.proofs.HeadExits.{runOf}
 use Rattle.records.proofs.RunsThere.{run-stops, run-opened, views-place, views-most}
 use Rattle.records.proofs.ThereExits.{head-room, run-is as there-run}
-use Rattle.manifest.specs.Ranges.{effective}
-use Rattle.manifest.specs.Checks.{Checks, imageChecks, starts, has}
-use Rattle.manifest.specs.Faults.{faultOf, least, ordered, viewChecks, viewsChecks, lastOf}
-use Rattle.manifest.specs.Spans.{EffectiveFound, faults, judged, JudgedFound}
+use Rattle.manifest.specs.Checks.{Checks, imageChecks, has}
+use Rattle.manifest.specs.Faults.{faultOf, least, ordered, viewsChecks}
+use Rattle.manifest.specs.Spans.{faults, judged, JudgedFound}
 use Rattle.commit_index.specs.Index.{indexedNumbers, rowIds, RunIs, RunPassed, RunsIndexed}
 use Rattle.manifest.specs.declared.images.Judged.{Judged}
 use Rattle.manifest.specs.declared.images.Judged.the-variants.{At, Stop}
@@ -53,7 +43,7 @@ use Rattle.commit_index.specs.declared.RunJudged.{RunJudged}
 use Rattle.commit_index.specs.declared.RunJudged.the-variants.{At as RunAt, Stop as RunStop}
 use Rattle.commit_index.specs.declared.runs.IndexedRun.{IndexedRun}
 use Rattle.commit_index.proofs.RunRows.{ids-length, id-number, held-ids}
-use Rattle.manifest.proofs.Steps.{views-none, views-more, starts-more, last-more, image-none, image-more}
+use Rattle.manifest.proofs.Steps.{image-none, image-more}
 
 -- ---- id_among
 pub record Unshared (l : List ℕ) (n id i : ℕ) : Type 0 where
@@ -65,9 +55,6 @@ pub unshared-none : (l : List ℕ) (n id : ℕ) → n ≤ length l → Unshared 
 unshared-none l n id h = record { upto = omega arith; long = h; rest = refl }
 
 module _ {l : List ℕ} {n id i : ℕ} (p : Unshared l n id i) where
-  pub id-in : i < n → i < length l
-  id-in h = omega (arith, p .long)
-
   step : i < n → has id (take n l) ≡ (eqb id (getD l i 0) || has id (slice (suc i) n l))
   unfolding has
   step h = p .rest ∙ ap (has id) (slice-cons i n l 0 h (p .long))
@@ -289,7 +276,7 @@ module _ {s : List ℕ} {from n : ℕ} {d t : List ℕ} {k at fault : ℕ} (p : 
 
 pub ruleset runs-exits = (runs-begin, runs-at, runs-same, ids-room, runs-end, row-room, row-same, runs-stop, runs-onward)
 
--- ---- image_front
+-- ---- image_indexed: the number of runs
 counted-within : (most : ℕ) (t : Bool) (w n : ℕ) (l r : List ℕ) → t ≡ leb w most → got n r ≡ taken (check 3 t (answer w)) l → n ≤ most
 counted-within most true w n l r e h = let z : n ≡ w = cc in rw z (leb-true w most (sym e))
 counted-within most false w n l r e h = absurd (let z : _≡_ {A = ℕ} 0 1 = cc in omega arith)
@@ -299,20 +286,9 @@ unfolding countOf
 count-within most (got w l) n r h = counted-within most (leb w most) w n l r refl h
 count-within most (stop k) n r h = absurd (let z : _≡_ {A = ℕ} 0 1 = cc in omega arith)
 
-module _ (s : List ℕ) {r : CountRead} (f : CountFound s (upTo 1 64 .read (drop 0 s)) r) where
-  pub no-runs : {k : ℕ} → r ≡ CountStop k → JudgedFound s (faults imageChecks (image .read s)) (Stop k)
-  no-runs q = record { meaning = rw (image-is s, ← (f .meaning), q); inside = tt }
-
-  pub all-runs : {n first : ℕ} {w : Judged} → r ≡ CountAt n first → JudgedFound s (faults imageChecks (readMany (run .read) n (drop first s))) w → JudgedFound s (faults imageChecks (image .read s)) w
-  all-runs {n} {first} q x =
-      let z : image .read s ≡ readMany (run .read) n (drop first s) = image-is s ∙ rw (← (f .meaning), q) in
-      record { meaning = x .meaning ∙ sym (ap (faults imageChecks) z); inside = x .inside }
-
 -- a count that was read is within its ceiling
 pub count-most : {s : List ℕ} {r : CountRead} {n first : ℕ} → CountFound s (upTo 1 64 .read (drop 0 s)) r → r ≡ CountAt n first → n ≤ 64
 count-most {s} {r} {n} {first} f q = count-within 64 (readNumber 1 (drop 0 s)) n (drop first s) (rw q at (f .meaning))
 
 pub first-place : {s : List ℕ} {r : CountRead} {n first : ℕ} → CountFound s (upTo 1 64 .read (drop 0 s)) r → r ≡ CountAt n first → first ≤ length s
 first-place f q = rw q at (f .inside)
-
-pub ruleset image-exits = (no-runs, all-runs, count-most, first-place)

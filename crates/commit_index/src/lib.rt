@@ -7,7 +7,6 @@ use manifest::lesser;
 use records::CountRead;
 use records::RunRead;
 pub use runs::IndexedRun;
-pub use runs::has_run;
 use runs::id_among;
 pub use runs::indexed_run;
 use runs::put_run;

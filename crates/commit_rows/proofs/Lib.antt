@@ -1,3 +1,2 @@
 pub mod Puts
 pub mod RowExits
-pub mod Lengths

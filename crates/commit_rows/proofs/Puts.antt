@@ -1,12 +1,10 @@
 -- The exits of the functions that put numbers into a row, and of those that turn a kind or a form into a number and back.
 -- Assumes nothing.
-use Prim.Native.Nat.{ℕ, zero, suc, _+_, _*_, _≤_, _<_, _^_}
+use Prim.Native.Nat.{ℕ, zero, suc, _+_, _≤_, _<_}
 use native.Mathlib.Omega.{arith}
 use mathlib.Core.Path.{_≡_, refl, ap, _∙_}
 use mathlib.Core.List.{List, [], _∷_, _++_}
 use lib.ListN.{length, getD, set, length-set}
-use mir.Val.{Fits}
-use mir.Syntax.{w64}
 use Rattle.base.specs.Splice.{splice, set-is-splice, splice-splice, length-splice}
 use Rattle.comparable_range.specs.declared.Side.{Side}
 use Rattle.comparable_range.specs.declared.Side.the-variants.{First, Second}

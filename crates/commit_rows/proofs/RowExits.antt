@@ -2,8 +2,7 @@
 -- Assumes nothing.
 use Prim.Native.Nat.{ℕ, zero, suc, _+_, _*_, _≤_, _<_, _^_}
 use native.Mathlib.Omega.{arith}
-use native.Mathlib.Nat.{add-zero}
-use mathlib.Core.Path.{_≡_, refl, sym, ap, _∙_}
+use mathlib.Core.Path.{_≡_, refl, ap, _∙_}
 use mathlib.Core.Bool.{Bool, true, false}
 use mathlib.Core.List.{List, [], _∷_, _++_}
 use lib.ListN.{length, getD, set, length-set}
@@ -17,7 +16,6 @@ use Rattle.comparable_range.specs.declared.Kind.the-variants.{Unbounded, Includ
 use Rattle.comparable_range.specs.declared.Side.the-variants.{First, Second}
 use Rattle.format.specs.Range.{kindOf, kindNumber}
 use Rattle.format.specs.declared.range.BoundSpan.{BoundSpan}
-use Rattle.format.specs.declared.span.RangeSpan.{RangeSpan}
 use Rattle.commit_rows.specs.Numbers.{spanAt, boundNumbers, gapOf, gapNumbers, bitOf, partOf, partNumbers, formOf, formNumber, rowOf, rowNumbers, runKindOf, runKindNumber, runOf, runNumbers}
 use Rattle.commit_rows.specs.declared.parts.PartSpan.{PartSpan}
 use Rattle.commit_rows.specs.declared.rows.Form.{Form}

@@ -9,5 +9,4 @@ pub mod Placing
 pub mod Placed
 pub mod RunExits
 pub mod ImageExits
-pub mod Sizes
 pub mod Made

@@ -2,27 +2,24 @@
 -- Assumes nothing.
 use Prim.Native.Nat.{ℕ, suc, _+_, _-_, _*_, _≤_, _<_}
 use native.Mathlib.Omega.{arith}
-use mathlib.Core.Path.{_≡_, refl, sym, ap, subst, _∙_}
-use mathlib.Core.List.{List, [], _∷_, _++_, map, flatMap, append-assoc}
+use mathlib.Core.Path.{_≡_, refl, sym, ap, _∙_}
+use mathlib.Core.List.{List, [], _∷_, _++_, flatMap, append-assoc}
 use lib.ListN.{length, take, drop, length-append, length-map}
-use lib.Seq.{take-at, drop-at}
 use Rattle.base.specs.Lists.{All, All-append}
-use Rattle.base.specs.Rows.{Each, rowsIn}
+use Rattle.base.specs.Rows.{Each}
 use Rattle.format.specs.Number.{writeNumber}
 use Rattle.records.specs.Form.{writeMany}
 use Rattle.records.specs.Values.{View, Run, Image}
 use Rattle.records.specs.Layouts.{view, run, image}
 use Rattle.incremental_progress.specs.Gaps.{Placed, byGap}
-use Rattle.commit_rows.specs.Numbers.{rowOf}
-use Rattle.commit_rows.specs.Bytes.{between, RowInside}
+use Rattle.commit_rows.specs.Bytes.{between}
 use Rattle.commit_rows.specs.declared.rows.Row.{Row}
 use Rattle.commit_rows.specs.declared.runs.RunKind.the-variants.{Other, Source, Destination}
 use Rattle.commit_rows.specs.declared.runs.RunRow.{RunRow}
 use Rattle.commit_write.specs.Rows.{viewBytes}
 use Rattle.commit_write.specs.Buckets.{byBucket, destinationRows}
 use Rattle.commit_write.specs.BucketLaws.{by-length, by-each}
-use Rattle.commit_write.specs.Runs.{headBytes, runBytes, runsBytes, newImageBytes, runsIn, planned, allRows, plannedImage, Bucketed, RunsFit, Writable}
-use Rattle.commit_write.specs.declared.runs.Counts.{Counts}
+use Rattle.commit_write.specs.Runs.{headBytes, runBytes, runsBytes, newImageBytes, planned, Bucketed}
 use Rattle.commit_write.proofs.RunExits.{other-bytes, source-bytes, destination-run-bytes}
 use Rattle.commit_write.proofs.Placed.{outputsPlaced, piecesPlaced, RowFor, buckets-are-gaps, destination-bytes}
 
@@ -118,41 +115,3 @@ module _ (given job ids : List ℕ) (outputs : List Row) where
       ap (λ n. writeNumber 1 n ++ runsBytes given job ids outputs rs rows) (as-many rs rows new m)
       ∙ ap (λ l. writeNumber 1 (length new) ++ l) (runs-made rs rows new m)
       ∙ sym (image-is new)
-
--- ---- tables that hold a plan: m outputs, and the runs' own rows
-pub record PlanHeld (runs rows : List ℕ) (c : Counts) (outputs : List Row) (rs : List RunRow) (own : List Row) : Type 0 where
-  pub runs-are : runsIn (c .runs) runs ≡ rs
-  pub rows-are : map rowOf (rowsIn 11 (c .outputs + planned rs) rows) ≡ outputs ++ own
-  pub count : length outputs ≡ c .outputs
-
-module _ {runs rows : List ℕ} {c : Counts} {outputs : List Row} {rs : List RunRow} {own : List Row} (p : PlanHeld runs rows c outputs rs own) where
-  all-are : allRows c runs rows ≡ outputs ++ own
-  all-are = ap (λ l. map rowOf (rowsIn 11 (c .outputs + planned l) rows)) (p .runs-are) ∙ p .rows-are
-
-  front-is : take (c .outputs) (allRows c runs rows) ≡ outputs
-  front-is = ap (take (c .outputs)) all-are ∙ take-at outputs own (c .outputs) (p .count)
-
-  back-is : drop (c .outputs) (allRows c runs rows) ≡ own
-  back-is = ap (drop (c .outputs)) all-are ∙ drop-at outputs own (c .outputs) (p .count)
-
-  pub planned-image : (given job ids : List ℕ) → plannedImage given job ids runs rows c ≡ newImageBytes given job ids outputs rs own
-  planned-image given job ids = rw (front-is, back-is, p .runs-are)
-
-  pub plan-writable :
-      (given job ids order out : List ℕ)
-      → c .runs * 6 ≤ length runs
-      → (c .outputs + planned rs) * 11 ≤ length rows
-      → All (RowInside given job ids) (outputs ++ own)
-      → Bucketed outputs
-      → RunsFit given (c .outputs) (length order) rs own
-      → length (newImageBytes given job ids outputs rs own) ≤ length out
-      → Writable given job ids runs rows order c out
-  plan-writable given job ids order out h k a b f l =
-      record {
-        runs-long = h;
-        rows-long = rw (p .runs-are) k;
-        inside = subst (All (RowInside given job ids)) (sym all-are) a;
-        small = subst Bucketed (sym front-is) b;
-        fit = subst (λ q. RunsFit given (c .outputs) (length order) q (drop (c .outputs) (allRows c runs rows))) (sym (p .runs-are)) (subst (RunsFit given (c .outputs) (length order) rs) (sym back-is) f);
-        room = rw (planned-image given job ids) l;
-      }

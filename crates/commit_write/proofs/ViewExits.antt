@@ -5,6 +5,7 @@ use native.Mathlib.Omega.{arith}
 use mathlib.Core.Path.{_≡_, refl, sym, ap, subst, _∙_}
 use mathlib.Core.List.{List, [], _∷_, _++_}
 use lib.ListN.{length, take, drop}
+use lib.Seq.{take-take}
 use mir.Val.{Fits}
 use mir.Syntax.{w64}
 use Rattle.base.specs.Splice.{splice, length-splice, splice-splice}
@@ -18,34 +19,52 @@ use Rattle.format.specs.Number.{writeNumber}
 use Rattle.format.specs.Key.{writeKey}
 use Rattle.format.specs.Range.{headByte, kindOfBound, BoundInside, writeBound, writeRange}
 use Rattle.format.proofs.Layouts.{number-length, key-length}
+use Rattle.records.specs.declared.ids.TableId.{TableId}
+use Rattle.records.specs.declared.ids.ViewId.{ViewId}
+use Rattle.incremental_progress.specs.Ids.{publishingId}
 use Rattle.commit_rows.specs.Bytes.{between, newIdBytes, cutBytes, wholeBytes, rowRange, RowInside, rowBytes}
 use Rattle.commit_rows.specs.declared.rows.Form.the-variants.{Whole, Output, CutOutput, Cut}
 use Rattle.commit_rows.specs.declared.rows.Row.{Row}
 use Rattle.commit_write.specs.Put.{Put, sidedRange}
 use Rattle.commit_write.proofs.Pieces.{put-here, put-none, put-same, put-length, first-room, second-room, both-put, both-length, one-room, two-room, three-room, all-put, all-length}
 
+-- ---- ids
+-- the id of the view that publishes the table whose id was read
+pub published-is : (x : List ℕ) {id : TableId} {old : ViewId} → id .0 ≡ x → old ≡ publishingId id → old .0 ≡ x
+published-is x e f = ap (λ (i : ViewId). i .0) f ∙ e
+
+-- the first bytes of an id that was read at a place stand there
+time-is : (s : List ℕ) (at : ℕ) {id : List ℕ} → id ≡ take 16 (drop at s) → take 6 id ≡ between s at (at + 6)
+time-is s at e = let n : at + 6 - at ≡ 6 = omega arith in rw (e, n) (take-take 6 16 (drop at s) (omega arith))
+
+-- all of them
+read-is : (s : List ℕ) (at : ℕ) {id : List ℕ} → id ≡ take 16 (drop at s) → id ≡ between s at (at + 16)
+read-is s at e = let n : at + 16 - at ≡ 16 = omega arith in rw n e
+
+-- ---- put_id
+pub kept-put : (d : List ℕ) (to : ℕ) (id : List ℕ) {e : List ℕ} → length id ≡ 16 → e ≡ splice d to id → Put d to id e (to + 16)
+kept-put d to id h p = put-here d to id p (omega (arith, h))
+
 -- ---- put_new_id
-module _ (d : List ℕ) (to : ℕ) (s : List ℕ) (id : ℕ) (ids : List ℕ) (ten : ℕ) (room : to + length (newIdBytes s id ids ten) ≤ length d) where
-  id-roomy : to + length (between s id (id + 6) ++ between ids ten (ten + 10)) ≤ length d
-  unfolding newIdBytes
-  id-roomy = room
+pub time-inside : (old : List ℕ) → length old ≡ 16 → 6 ≤ length old
+time-inside old h = omega (arith, h)
 
-  pub time-room : to + length (between s id (id + 6)) ≤ length d
-  time-room = first-room d to (between s id (id + 6)) (between ids ten (ten + 10)) id-roomy
+module _ (d : List ℕ) (to : ℕ) (old : List ℕ) (ids : List ℕ) (ten : ℕ) (room : to + length (take 6 old ++ between ids ten (ten + 10)) ≤ length d) where
+  pub time-room : to + length (take 6 old) ≤ length d
+  time-room = first-room d to (take 6 old) (between ids ten (ten + 10)) room
 
-  module _ {e : List ℕ} {a : ℕ} (p : Put d to (between s id (id + 6)) e a) where
+  module _ {e : List ℕ} {a : ℕ} (p : Put d to (take 6 old) e a) where
     pub ten-room : a + length (between ids ten (ten + 10)) ≤ length e
-    ten-room = second-room d to (between s id (id + 6)) (between ids ten (ten + 10)) id-roomy p
+    ten-room = second-room d to (take 6 old) (between ids ten (ten + 10)) room p
 
     module _ {f : List ℕ} {b : ℕ} (q : Put e a (between ids ten (ten + 10)) f b) where
-      pub id-put : Put d to (newIdBytes s id ids ten) f b
-      unfolding newIdBytes
-      id-put = both-put d to (between s id (id + 6)) (between ids ten (ten + 10)) id-roomy p q
+      pub id-put : Put d to (take 6 old ++ between ids ten (ten + 10)) f b
+      id-put = both-put d to (take 6 old) (between ids ten (ten + 10)) room p q
 
       pub id-same : length f ≡ length d
-      id-same = both-length d to (between s id (id + 6)) (between ids ten (ten + 10)) id-roomy p q
+      id-same = both-length d to (take 6 old) (between ids ten (ten + 10)) room p q
 
-pub ruleset id-exits = (time-room, ten-room, id-put, id-same)
+pub ruleset id-exits = (time-inside, time-room, ten-room, id-put, id-same)
 
 -- ---- put_key: the length, and the key
 module _ (d : List ℕ) (to : ℕ) (k : Key) (room : to + length (writeKey k) ≤ length d) where
@@ -199,21 +218,21 @@ module _ (image job : List ℕ) (a b : Side) (r : Row) {s e : List ℕ} (x : s �
 pub ruleset visible-exits = (start-inside, end-inside, visible-room, visible-put, visible-same)
 
 -- ---- put_output: the id, the table, and one byte
-module _ (d : List ℕ) (to : ℕ) (job : List ℕ) (a b : ℕ) (room : to + length (wholeBytes (between job a (a + 16)) (between job a b)) ≤ length d) where
-  abbrev id : List ℕ
-  id = between job a (a + 16)
-
+module _ (d : List ℕ) (to : ℕ) (job : List ℕ) (a b : ℕ) {id : List ℕ} (i : id ≡ take 16 (drop a job)) (room : to + length (wholeBytes (between job a (a + 16)) (between job a b)) ≤ length d) where
   abbrev table : List ℕ
   table = between job a b
 
-  whole-roomy : to + length (id ++ (table ++ (0 ∷ []))) ≤ length d
+  whole-is : id ++ (table ++ (0 ∷ [])) ≡ wholeBytes (between job a (a + 16)) table
   unfolding wholeBytes
-  whole-roomy = room
+  whole-is = ap (λ z. z ++ (table ++ (0 ∷ []))) (read-is job a i)
 
-  pub whole-id-room : to + length (between job a (a + 16)) ≤ length d
+  whole-roomy : to + length (id ++ (table ++ (0 ∷ []))) ≤ length d
+  whole-roomy = rw whole-is room
+
+  pub whole-id-room : to + length id ≤ length d
   whole-id-room = one-room d to id table (0 ∷ []) whole-roomy
 
-  module _ {e : List ℕ} {u : ℕ} (p : Put d to (between job a (a + 16)) e u) where
+  module _ {e : List ℕ} {u : ℕ} (p : Put d to id e u) where
     pub whole-table-room : u + length (between job a b) ≤ length e
     whole-table-room = two-room d to id table (0 ∷ []) whole-roomy p
 
@@ -235,8 +254,7 @@ module _ (d : List ℕ) (to : ℕ) (job : List ℕ) (a b : ℕ) (room : to + len
         last = put-here f v (0 ∷ []) w refl
 
         pub whole-put : Put d to (wholeBytes (between job a (a + 16)) (between job a b)) g (v + 1)
-        unfolding wholeBytes
-        whole-put = all-put d to id table (0 ∷ []) whole-roomy p q last
+        whole-put = put-same (all-put d to id table (0 ∷ []) whole-roomy p q last) whole-is
 
         pub whole-same : length g ≡ length d
         whole-same = all-length d to id table (0 ∷ []) whole-roomy p q last
@@ -253,13 +271,17 @@ module _ (image job ids : List ℕ) (r : Row) where
   unfolding rowBytes
   output-bytes e = rw e
 
-  cut-output-bytes : r .form ≡ CutOutput → newIdBytes job (r .at) ids (r .ten) ++ (between job (r .at) (r .past) ++ (128 ∷ writeRange (sidedRange Second Second image job r))) ≡ rowBytes image job ids r
-  unfolding rowBytes cutBytes rowRange
-  cut-output-bytes e = rw e
+  -- a new id, by the bytes of the old one
+  abbrev newBytes : List ℕ → List ℕ
+  newBytes old = take 6 old ++ between ids (r .ten) (r .ten + 10)
 
-  cut-bytes : {a b : Side} → r .form ≡ Cut a b → newIdBytes image (r .at) ids (r .ten) ++ (between image (r .at + 16) (r .past) ++ (128 ∷ writeRange (sidedRange a b image job r))) ≡ rowBytes image job ids r
-  unfolding rowBytes cutBytes rowRange
-  cut-bytes e = rw e
+  cut-output-bytes : {old : List ℕ} → old ≡ take 16 (drop (r .at) job) → r .form ≡ CutOutput → newBytes old ++ (between job (r .at) (r .past) ++ (128 ∷ writeRange (sidedRange Second Second image job r))) ≡ rowBytes image job ids r
+  unfolding rowBytes cutBytes rowRange newIdBytes
+  cut-output-bytes i e = rw (time-is job (r .at) i, e)
+
+  cut-bytes : {a b : Side} {old : List ℕ} → old ≡ take 16 (drop (r .at) image) → r .form ≡ Cut a b → newBytes old ++ (between image (r .at + 16) (r .past) ++ (128 ∷ writeRange (sidedRange a b image job r))) ≡ rowBytes image job ids r
+  unfolding rowBytes cutBytes rowRange newIdBytes
+  cut-bytes i e = rw (time-is image (r .at) i, e)
 
   module _ (i : RowInside image job ids r) where
     pub whole-inside : r .form ≡ Whole → r .past ≤ length image
@@ -291,9 +313,9 @@ module _ (image job ids : List ℕ) (r : Row) where
       pub cut-output-end : BoundInside job (r .end)
       cut-output-end = rw f at (i .end)
 
-      module _ (d : List ℕ) (to : ℕ) (room : to + length (rowBytes image job ids r) ≤ length d) where
+      module _ {old : List ℕ} (k : old ≡ take 16 (drop (r .at) job)) (d : List ℕ) (to : ℕ) (room : to + length (rowBytes image job ids r) ≤ length d) where
         abbrev x : List ℕ
-        x = newIdBytes job (r .at) ids (r .ten)
+        x = newBytes old
 
         abbrev y : List ℕ
         y = between job (r .at) (r .past)
@@ -302,12 +324,12 @@ module _ (image job ids : List ℕ) (r : Row) where
         z = 128 ∷ writeRange (sidedRange Second Second image job r)
 
         roomy : to + length (x ++ (y ++ z)) ≤ length d
-        roomy = rw (cut-output-bytes f) room
+        roomy = rw (cut-output-bytes k f) room
 
-        pub cut-output-id-room : to + length (newIdBytes job (r .at) ids (r .ten)) ≤ length d
+        pub cut-output-id-room : to + length (newBytes old) ≤ length d
         cut-output-id-room = one-room d to x y z roomy
 
-        module _ {e : List ℕ} {u : ℕ} (p : Put d to (newIdBytes job (r .at) ids (r .ten)) e u) where
+        module _ {e : List ℕ} {u : ℕ} (p : Put d to (newBytes old) e u) where
           pub cut-output-table-room : u + length (between job (r .at) (r .past)) ≤ length e
           cut-output-table-room = two-room d to x y z roomy p
 
@@ -317,7 +339,7 @@ module _ (image job ids : List ℕ) (r : Row) where
 
             module _ {g : List ℕ} {w : ℕ} (t : Put o v (128 ∷ writeRange (sidedRange Second Second image job r)) g w) where
               pub cut-output-put : Put d to (rowBytes image job ids r) g w
-              cut-output-put = put-same (all-put d to x y z roomy p q t) (cut-output-bytes f)
+              cut-output-put = put-same (all-put d to x y z roomy p q t) (cut-output-bytes k f)
 
               pub cut-output-same : length g ≡ length d
               cut-output-same = all-length d to x y z roomy p q t
@@ -339,9 +361,9 @@ module _ (image job ids : List ℕ) (r : Row) where
       pub cut-end : BoundInside (of b image job) (r .end)
       cut-end = rw f at (i .end)
 
-      module _ (d : List ℕ) (to : ℕ) (room : to + length (rowBytes image job ids r) ≤ length d) where
+      module _ {old : List ℕ} (k : old ≡ take 16 (drop (r .at) image)) (d : List ℕ) (to : ℕ) (room : to + length (rowBytes image job ids r) ≤ length d) where
         abbrev x′ : List ℕ
-        x′ = newIdBytes image (r .at) ids (r .ten)
+        x′ = newBytes old
 
         abbrev y′ : List ℕ
         y′ = between image (r .at + 16) (r .past)
@@ -350,12 +372,12 @@ module _ (image job ids : List ℕ) (r : Row) where
         z′ = 128 ∷ writeRange (sidedRange a b image job r)
 
         cut-roomy : to + length (x′ ++ (y′ ++ z′)) ≤ length d
-        cut-roomy = rw (cut-bytes f) room
+        cut-roomy = rw (cut-bytes k f) room
 
-        pub cut-id-room : to + length (newIdBytes image (r .at) ids (r .ten)) ≤ length d
+        pub cut-id-room : to + length (newBytes old) ≤ length d
         cut-id-room = one-room d to x′ y′ z′ cut-roomy
 
-        module _ {e : List ℕ} {u : ℕ} (p : Put d to (newIdBytes image (r .at) ids (r .ten)) e u) where
+        module _ {e : List ℕ} {u : ℕ} (p : Put d to (newBytes old) e u) where
           pub cut-table-room : u + length (between image (r .at + 16) (r .past)) ≤ length e
           cut-table-room = two-room d to x′ y′ z′ cut-roomy p
 
@@ -365,7 +387,7 @@ module _ (image job ids : List ℕ) (r : Row) where
 
             module _ {g : List ℕ} {w : ℕ} (t : Put o v (128 ∷ writeRange (sidedRange a b image job r)) g w) where
               pub cut-put : Put d to (rowBytes image job ids r) g w
-              cut-put = put-same (all-put d to x′ y′ z′ cut-roomy p q t) (cut-bytes f)
+              cut-put = put-same (all-put d to x′ y′ z′ cut-roomy p q t) (cut-bytes k f)
 
               pub cut-same : length g ≡ length d
               cut-same = all-length d to x′ y′ z′ cut-roomy p q t

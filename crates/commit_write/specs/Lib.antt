@@ -3,4 +3,3 @@ pub mod Rows
 pub mod Buckets
 pub mod BucketLaws
 pub mod Runs
-pub mod Lengths

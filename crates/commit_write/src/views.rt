@@ -5,6 +5,7 @@ use comparable_range::Kind;
 use comparable_range::Side;
 use format::key_of;
 use format::span::slice_of;
+use records::ViewId;
 ghost use mathlib.Core.Path.{_≡_};
 ghost use mathlib.Core.List.{[], _∷_, _++_};
 ghost use Prim.Native.Nat.{_≤_, _+_};
@@ -12,7 +13,8 @@ ghost use lib.ListN.{length};
 ghost use Rattle.comparable_range.specs.Range.{of, boundOf, rangeOf};
 ghost use Rattle.format.specs.Key.{writeKey};
 ghost use Rattle.format.specs.Range.{BoundInside, writeBound, writeRange};
-ghost use Rattle.commit_rows.specs.Bytes.{between, newIdBytes, wholeBytes, RowInside, rowBytes};
+ghost use Rattle.incremental_progress.specs.Draws.{newId};
+ghost use Rattle.commit_rows.specs.Bytes.{between, wholeBytes, RowInside, rowBytes};
 ghost use Rattle.commit_rows.specs.declared.rows.Form.the-variants.{CutOutput, Cut};
 ghost use Rattle.commit_write.specs.Put.{Put, sidedRange};
 
@@ -25,12 +27,23 @@ pub fn put_part(src: &[u8], a: usize, b: usize, out: &mut [u8], to: usize) -> us
     to + (b - a)
 }
 
-// The time of the id that stands in src, and ten bytes of the supply.
-fn put_new_id(src: &[u8], id: usize, ids: &[u8], ten: usize, out: &mut [u8], to: usize) -> usize
-    requires { ⌜ id + 16 ≤ length (now src) ⌝ ∗ ⌜ ten + 10 ≤ length (now ids) ⌝ ∗ ⌜ to + length (newIdBytes (now src) id (now ids) ten) ≤ length (now out) ⌝ }
-    ensures { λ r. ⌜ Put (now (out .entry)) to (newIdBytes (now (src .entry)) id (now (ids .entry)) ten) (now (out .exit)) r ⌝ }
+// An id as it is.
+fn put_id(id: ViewId, out: &mut [u8], to: usize) -> usize
+    requires { ⌜ to + length (id .0) ≤ length (now out) ⌝ }
+    ensures { λ r. ⌜ Put (now (out .entry)) to (id .0) (now (out .exit)) r ⌝ }
 {
-    let past = put_part(src, id, id + 6, out, to);
+    let bytes = id.0;
+    format::put(out, to, &bytes);
+    to + 16
+}
+
+// A new id: the time of the old one, and ten bytes of the supply.
+fn put_new_id(old: ViewId, ids: &[u8], ten: usize, out: &mut [u8], to: usize) -> usize
+    requires { ⌜ ten + 10 ≤ length (now ids) ⌝ ∗ ⌜ to + length (newId old (between (now ids) ten (ten + 10)) .0) ≤ length (now out) ⌝ }
+    ensures { λ r. ⌜ Put (now (out .entry)) to (newId old (between (now (ids .entry)) ten (ten + 10)) .0) (now (out .exit)) r ⌝ }
+{
+    let bytes = old.0;
+    let past = put_part(&bytes, 0, 6, out, to);
     put_part(ids, ten, ten + 10, out, past)
 }
 
@@ -90,12 +103,13 @@ fn put_visible<'a>(
     put_range(ks, key_of(s, x), ke, key_of(e, y), out, to)
 }
 
-// An output of the job under its own id.
+// An output of the job under the id of its table.
 fn put_output(job: &[u8], a: usize, b: usize, out: &mut [u8], to: usize) -> usize
     requires { ⌜ a + 16 ≤ b ⌝ ∗ ⌜ b ≤ length (now job) ⌝ ∗ ⌜ to + length (wholeBytes (between (now job) a (a + 16)) (between (now job) a b)) ≤ length (now out) ⌝ }
     ensures { λ r. ⌜ Put (now (out .entry)) to (wholeBytes (between (now (job .entry)) a (a + 16)) (between (now (job .entry)) a b)) (now (out .exit)) r ⌝ }
 {
-    let table = put_part(job, a, a + 16, out, to);
+    let id = commit_ids::publishing_id(records::table_id_at(job, a));
+    let table = put_id(id, out, to);
     let flag = put_part(job, a, b, out, table);
     format::put_byte(out, flag, 0);
     flag + 1
@@ -113,7 +127,8 @@ fn put_cut_output<'a>(
     requires { ⌜ RowInside (now image) (now job) (now ids) r ⌝ ∗ ⌜ r .form ≡ CutOutput ⌝ ∗ ⌜ to + length (rowBytes (now image) (now job) (now ids) r) ≤ length (now out) ⌝ }
     ensures { λ z. ⌜ Put (now (out .entry)) to (rowBytes (now (image .entry)) (now (job .entry)) (now (ids .entry)) r) (now (out .exit)) z ⌝ }
 {
-    let table = put_new_id(job, r.at, ids, r.ten, out, to);
+    let old = commit_ids::publishing_id(records::table_id_at(job, r.at));
+    let table = put_new_id(old, ids, r.ten, out, to);
     let flag = put_part(job, r.at, r.past, out, table);
     put_visible(image, job, Side::Second, Side::Second, r, out, flag)
 }
@@ -132,7 +147,8 @@ fn put_cut<'a>(
     requires { ⌜ RowInside (now image) (now job) (now ids) r ⌝ ∗ ⌜ r .form ≡ Cut start end ⌝ ∗ ⌜ to + length (rowBytes (now image) (now job) (now ids) r) ≤ length (now out) ⌝ }
     ensures { λ z. ⌜ Put (now (out .entry)) to (rowBytes (now (image .entry)) (now (job .entry)) (now (ids .entry)) r) (now (out .exit)) z ⌝ }
 {
-    let table = put_new_id(image, r.at, ids, r.ten, out, to);
+    let old = commit_ids::view_id_at(image, r.at);
+    let table = put_new_id(old, ids, r.ten, out, to);
     let flag = put_part(image, r.at + 16, r.past, out, table);
     put_visible(image, job, start, end, r, out, flag)
 }

@@ -5,14 +5,14 @@ use borrow.Author.Needs.{needs}
 use Rattle.commit_write.proofs.views.put_new_id.Statement.{statement}
 use Rattle.commit_write.proofs.views.put_new_id.Tie as tie
 
-add-put-part : tie.Need-add-put-part
-add-put-part c = search (needs, id-exits)
+slice-aggregate-put-part : tie.Need-slice-aggregate-put-part
+slice-aggregate-put-part c = search (needs, id-exits)
 
 put-part-requires : tie.Need-put-part-requires
 put-part-requires c κs = search (needs, id-exits)
 
-add-put-part-2 : tie.Need-add-put-part-2
-add-put-part-2 c = search (needs, id-exits)
+add-put-part : tie.Need-add-put-part
+add-put-part c = search (needs, id-exits)
 
 put-part-requires-2 : tie.Need-put-part-requires-2
 put-part-requires-2 c κs = search (needs, id-exits)
@@ -27,9 +27,9 @@ pub put-new-id-spec : {M : Type 1} → statement M
 put-new-id-spec =
     tie.close
     (tie.spec
-    add-put-part
+    slice-aggregate-put-part
     put-part-requires
-    add-put-part-2
+    add-put-part
     put-part-requires-2
     same-length
     returns)

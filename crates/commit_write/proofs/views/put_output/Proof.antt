@@ -1,38 +1,52 @@
 -- `commit_write::views::put_output` meets its contract.
 -- Assumes nothing.
-use Rattle.commit_write.proofs.ViewExits.{output-exits}
+use Rattle.commit_write.proofs.ViewExits.{published-is, output-exits}
 use borrow.Author.Needs.{needs}
 use Rattle.commit_write.proofs.views.put_output.Statement.{statement}
 use Rattle.commit_write.proofs.views.put_output.Tie as tie
 
-add-put-part : tie.Need-add-put-part
-add-put-part c = search (needs, output-exits)
+table-id-at-requires : tie.Need-table-id-at-requires
+table-id-at-requires c κs = search (needs, output-exits)
+
+publishing-id-requires : tie.Need-publishing-id-requires
+publishing-id-requires c κs = search (needs, output-exits)
+
+put-id-requires : tie.Need-put-id-requires
+put-id-requires c κs =
+    let i = published-is _ (c .before .before .table-id-at .ensures) (c .before .publishing-id .ensures) in
+    search (needs, output-exits, i)
 
 put-part-requires : tie.Need-put-part-requires
-put-part-requires c κs = search (needs, output-exits)
-
-put-part-requires-2 : tie.Need-put-part-requires-2
-put-part-requires-2 c κs = search (needs, output-exits)
+put-part-requires c κs =
+    let i = published-is _ (c .before .before .before .before .before .before .table-id-at .ensures) (c .before .before .before .before .before .publishing-id .ensures) in
+    (search (needs, output-exits), (search (needs, output-exits), search (needs, output-exits, i)))
 
 put-byte-requires : tie.Need-put-byte-requires
-put-byte-requires c κs = search (needs, output-exits)
+put-byte-requires c κs =
+    let i = published-is _ (c .before .before .before .before .before .before .before .before .before .before .table-id-at .ensures) (c .before .before .before .before .before .before .before .before .before .publishing-id .ensures) in
+    search (needs, output-exits, i)
 
 add-result : tie.Need-add-result
-add-result c = search (needs, output-exits)
+add-result c =
+    let i = published-is _ (c .before .before .before .before .before .before .before .before .before .before .before .before .before .table-id-at .ensures) (c .before .before .before .before .before .before .before .before .before .before .before .before .publishing-id .ensures) in
+    search (needs, output-exits, i)
 
 same-length : tie.Need-same-length
 same-length c = search (needs, output-exits)
 
 returns : tie.Need-returns
-returns c = search (needs, output-exits)
+returns c =
+    let i = published-is _ (c .before .before .before .before .before .before .before .before .before .before .before .before .before .table-id-at .ensures) (c .before .before .before .before .before .before .before .before .before .before .before .before .publishing-id .ensures) in
+    search (needs, output-exits, i)
 
 pub put-output-spec : {M : Type 1} → statement M
 put-output-spec =
     tie.close
     (tie.spec
-    add-put-part
+    table-id-at-requires
+    publishing-id-requires
+    put-id-requires
     put-part-requires
-    put-part-requires-2
     put-byte-requires
     add-result
     same-length
