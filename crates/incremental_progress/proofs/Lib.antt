@@ -32,7 +32,6 @@ pub mod Pieces
 pub mod ProgressLaws
 pub mod Publish
 pub mod Sort
-pub mod SortSizes
 pub mod Span
 pub mod Subtraction
 pub mod Vanish
