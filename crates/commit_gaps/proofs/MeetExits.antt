@@ -9,35 +9,25 @@ use Rattle.base.specs.Pick.{pick}
 use Rattle.key.specs.Order.{swap, isEqual, isLess, atMost}
 use Rattle.key.specs.declared.Order.{Order}
 use Rattle.key.specs.declared.Order.the-variants.{Less, Equal, Greater}
-use Rattle.key.proofs.Linear.{cmp-self}
 use Rattle.comparable_range.specs.Range.{Bound, Range, of, supplied, cmpBound, nonEmpty, startSide, endSide, intersectSides, intersect}
-use Rattle.comparable_range.specs.Cut.{cmpCut, cutAtMost, _≼_, later, startCut, endCut}
+use Rattle.comparable_range.specs.Cut.{cutAtMost, _≼_, later, startCut, endCut}
 use Rattle.comparable_range.specs.declared.Side.{Side}
 use Rattle.comparable_range.specs.declared.Side.the-variants.{First, Second}
 use Rattle.comparable_range.proofs.Cut.{cut-order-is-total}
 use Rattle.comparable_range.proofs.Lattice.{later-left}
 use Rattle.comparable_range.proofs.ByCuts.{cmp-start, cmp-end, start-side-cut, start-injective, fails-≼}
 use Rattle.incremental_progress.specs.Views.{sameRange}
+use Rattle.incremental_progress.proofs.Views.{same-range-self}
 use Rattle.commit_gaps.specs.declared.piece.Piece.the-variants.{Whole, Cut}
 use Rattle.commit_gaps.specs.declared.piece.Meeting.the-variants.{Apart, Past, Last, More}
 use Rattle.commit_gaps.specs.Found.{StartsWithin, all-of-it, part-of-it, MeetingIs, nothing, ended, ends, goes-on}
 
 -- ---- bounds
-start-self : (a : Bound) → cmpBound true a a ≡ Equal
-start-self a = cmp-start a a ∙ cmp-self cmpCut cut-order-is-total (startCut a)
-
-end-self : (a : Bound) → cmpBound false a a ≡ Equal
-end-self a = cmp-end a a ∙ cmp-self cmpCut cut-order-is-total (endCut a)
-
 start-swaps : (a b : Bound) → cmpBound true b a ≡ swap (cmpBound true a b)
 start-swaps a b = cmp-start b a ∙ cut-order-is-total .swaps (startCut a) (startCut b) ∙ ap swap (sym (cmp-start a b))
 
 end-swaps : (a b : Bound) → cmpBound false b a ≡ swap (cmpBound false a b)
 end-swaps a b = cmp-end b a ∙ cut-order-is-total .swaps (endCut a) (endCut b) ∙ ap swap (sym (cmp-end a b))
-
-same-self : (r : Range) → sameRange r r ≡ true
-unfolding sameRange
-same-self r = rw (start-self (r .start), end-self (r .end))
 
 -- the first of two ends is the lesser, or the second is less
 first-end : (a b : Bound) → endSide a b ≡ First → endCut a ≼ endCut b
@@ -118,7 +108,7 @@ module _ (r g : Range) {a : Side} (p : StartsWithin r g a) where
     within-whole k =
         let e = sym h ∙ k in
         let same : supplied r g a First ≡ r = rw own-start in
-        ends (record { piece = r; lies = meets-some r g a First (sym (p .is)) e (rw own-start (p .passes)) ∙ ap some same; is = all-of-it (same-self r) })
+        ends (record { piece = r; lies = meets-some r g a First (sym (p .is)) e (rw own-start (p .passes)) ∙ ap some same; is = all-of-it (same-range-self r) })
         (first-end (r .end) (g .end) e)
 
     module _ (k : d ≡ Second) {t : Bool} (e : t ≡ nonEmpty (record { start = r .start; end = g .end })) where

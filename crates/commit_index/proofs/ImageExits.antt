@@ -2,38 +2,33 @@
 -- Assumes nothing.
 use Prim.Native.Nat.{ℕ, suc, _+_, _*_, _-_, _^_, _≤_, _<_}
 use native.Mathlib.Omega.{arith}
-use native.Mathlib.Numerals.{add-one}
 use native.Mathlib.Nat.{le-antisymm}
 use mathlib.Core.Path.{_≡_, refl, sym, ap, _∙_}
 use mathlib.Core.Bool.{Bool, true, false, not, _||_}
 use mathlib.Core.List.{List, [], _∷_, _++_, map}
 use lib.ListN.{length, getD, take, drop, length-append, length-drop}
 use lib.Seq.{slice, slice-cons, slice-empty, take-all}
-use lib.Dec.{T, eqb, leb}
+use lib.Dec.{T, eqb}
 use mir.Val.{Fits}
 use mir.Syntax.{w64}
-use borrow.Author.Tests.{leb-true, eq-eqb, ne-eqb}
-use Rattle.base.specs.Outcome.{answer, check}
+use borrow.Author.Tests.{eq-eqb}
 use Rattle.base.specs.Rows.{RowsHold, hold-none, hold-more}
 use Rattle.base.specs.Splice.{splice, spliced-length}
-use Rattle.format.specs.Got.{Got, got, stop, andThen}
-use Rattle.format.specs.Number.{readNumber}
-use Rattle.records.specs.Form.{readMany, taken}
+use Rattle.format.specs.Got.{got, stop, andThen}
+use Rattle.records.specs.Form.{readMany}
 use Rattle.records.specs.Found.{isGot}
 use Rattle.records.specs.Values.{Run}
-use Rattle.records.specs.Layouts.{view, run, upTo, countOf}
-use Rattle.records.specs.Spans.{RunFound, runHead, CountFound}
+use Rattle.records.specs.Layouts.{view, run}
+use Rattle.records.specs.Spans.{RunFound, runHead}
 use Rattle.records.specs.declared.runs.RunRead.{RunRead}
 use Rattle.records.specs.declared.runs.RunRead.the-variants.{At as HeadAt, Stop as HeadStop}
-use Rattle.records.specs.declared.runs.CountRead.{CountRead}
-use Rattle.records.specs.declared.runs.CountRead.the-variants.{At as CountAt}
 use Rattle.records.proofs.Many.{Reading, begin, stopped, onward, all-read}
 use Rattle.records.proofs.FieldExits.{number-is}
 use Rattle.records.proofs.Forms.{readMany-length}
 use Rattle.records.proofs.HeadExits.{runOf}
 use Rattle.records.proofs.RunsThere.{run-stops, run-opened, views-place, views-most}
 use Rattle.records.proofs.ThereExits.{head-room, run-is as there-run}
-use Rattle.manifest.specs.Checks.{Checks, imageChecks, has}
+use Rattle.manifest.specs.Checks.{imageChecks, has}
 use Rattle.manifest.specs.Faults.{faultOf, least, ordered, viewsChecks}
 use Rattle.manifest.specs.Spans.{faults, judged, JudgedFound}
 use Rattle.commit_index.specs.Index.{indexedNumbers, rowIds, RunIs, RunPassed, RunsIndexed}
@@ -44,16 +39,9 @@ use Rattle.commit_index.specs.declared.RunJudged.the-variants.{At as Run
 use Rattle.commit_index.specs.declared.runs.IndexedRun.{IndexedRun}
 use Rattle.commit_index.proofs.RunRows.{ids-length, id-number, held-ids}
 use Rattle.manifest.proofs.Steps.{image-none, image-more}
+use Rattle.manifest.proofs.ImageExits.{Unshared, unshared-none, unshared-more, judge, judge-stop}
 
 -- ---- id_among
-pub record Unshared (l : List ℕ) (n id i : ℕ) : Type 0 where
-  pub upto : i ≤ n
-  pub long : n ≤ length l
-  pub rest : has id (take n l) ≡ has id (slice i n l)
-
-pub unshared-none : (l : List ℕ) (n id : ℕ) → n ≤ length l → Unshared l n id 0
-unshared-none l n id h = record { upto = omega arith; long = h; rest = refl }
-
 module _ {l : List ℕ} {n id i : ℕ} (p : Unshared l n id i) where
   step : i < n → has id (take n l) ≡ (eqb id (getD l i 0) || has id (slice (suc i) n l))
   unfolding has
@@ -61,10 +49,6 @@ module _ {l : List ℕ} {n id i : ℕ} (p : Unshared l n id i) where
 
   pub shared : i < n → getD l i 0 ≡ id → has id (take n l) ≡ true
   shared h e = rw (step h, eq-eqb id (getD l i 0) (sym e))
-
-  pub unshared-more : i < n → (getD l i 0 ≡ id → ⊥) → Unshared l n id (i + 1)
-  unshared-more h e =
-      record { upto = omega arith; long = p .long; rest = step h ∙ rw (ne-eqb id (getD l i 0) (λ q. e (sym q)), add-one) }
 
   pub unshared-all : n ≤ i → has id (take n l) ≡ false
   unfolding has
@@ -113,20 +97,6 @@ module _ (id n : ℕ) (t : List ℕ) {b : Bool} (e : b ≡ has id (rowIds n t)) 
 pub ruleset shared-exits = (shared-id, unshared-id)
 
 -- ---- run_judged
--- an answer's place and number are those of a value that was read
-pub record Judge {A : Type 0} (checks : A → Checks) (s : List ℕ) (g : Got A) (next fault : ℕ) : Type 0 where
-  pub value : A
-  pub is : g ≡ got value (drop next s)
-  pub fault-is : fault ≡ faultOf (checks value)
-
-pub judge : {A : Type 0} (checks : A → Checks) (s : List ℕ) (g : Got A) (next fault : ℕ) → got fault (drop next s) ≡ faults checks g → Judge checks s g next fault
-judge checks s (got a r) next fault e = record { value = a; is = let z : r ≡ drop next s = cc in rw z; fault-is = cc }
-judge checks s (stop k) next fault e = absurd (let z : _≡_ {A = ℕ} 0 1 = cc in omega arith)
-
-pub judge-stop : {A : Type 0} (checks : A → Checks) (g : Got A) (k : ℕ) → stop k ≡ faults checks g → g ≡ stop k
-judge-stop checks (got a r) k e = absurd (let z : _≡_ {A = ℕ} 0 1 = cc in omega arith)
-judge-stop checks (stop j) k e = let z : j ≡ k = cc in ap stop z
-
 -- a run's head is six bytes
 six-bytes : (s : List ℕ) (at i m next : ℕ) → next ≤ length s → runHead .read (drop at s) ≡ got (i, m) (drop next s) → next ≡ at + 6
 six-bytes s at i m next h e =
@@ -275,20 +245,3 @@ module _ {s : List ℕ} {from n : ℕ} {d t : List ℕ} {k at fault : ℕ} (p : 
           }
 
 pub ruleset runs-exits = (runs-begin, runs-at, runs-same, ids-room, runs-end, row-room, row-same, runs-stop, runs-onward)
-
--- ---- image_indexed: the number of runs
-counted-within : (most : ℕ) (t : Bool) (w n : ℕ) (l r : List ℕ) → t ≡ leb w most → got n r ≡ taken (check 3 t (answer w)) l → n ≤ most
-counted-within most true w n l r e h = let z : n ≡ w = cc in rw z (leb-true w most (sym e))
-counted-within most false w n l r e h = absurd (let z : _≡_ {A = ℕ} 0 1 = cc in omega arith)
-
-pub count-within : (most : ℕ) (g : Got ℕ) (n : ℕ) (r : List ℕ) → got n r ≡ andThen g (λ w l. taken (countOf most w) l) → n ≤ most
-unfolding countOf
-count-within most (got w l) n r h = counted-within most (leb w most) w n l r refl h
-count-within most (stop k) n r h = absurd (let z : _≡_ {A = ℕ} 0 1 = cc in omega arith)
-
--- a count that was read is within its ceiling
-pub count-most : {s : List ℕ} {r : CountRead} {n first : ℕ} → CountFound s (upTo 1 64 .read (drop 0 s)) r → r ≡ CountAt n first → n ≤ 64
-count-most {s} {r} {n} {first} f q = count-within 64 (readNumber 1 (drop 0 s)) n (drop first s) (rw q at (f .meaning))
-
-pub first-place : {s : List ℕ} {r : CountRead} {n first : ℕ} → CountFound s (upTo 1 64 .read (drop 0 s)) r → r ≡ CountAt n first → first ≤ length s
-first-place f q = rw q at (f .inside)

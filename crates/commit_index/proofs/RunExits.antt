@@ -28,7 +28,7 @@ use Rattle.manifest.specs.declared.images.Judged.the-variants.{At, Stop}
 use Rattle.commit_index.specs.declared.Indexed.the-variants.{At as IndexedAt, Stop as IndexedStop}
 use Rattle.commit_index.specs.declared.runs.IndexedRun.{IndexedRun}
 use Rattle.commit_index.proofs.RunRows.{held-ids}
-use Rattle.commit_index.proofs.ImageExits.{Judge, judge, judge-stop, count-most, first-place}
+use Rattle.manifest.proofs.ImageExits.{Judge, judge, judge-stop, count-most, first-place}
 
 -- ---- image_indexed
 pub no-image : (s d : List ℕ) {r : CountRead} {k : ℕ} → CountFound s (upTo 1 64 .read (drop 0 s)) r → r ≡ CountStop k → ImageIndexed s d d (IndexedStop k)

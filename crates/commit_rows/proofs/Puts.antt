@@ -9,18 +9,11 @@ use Rattle.base.specs.Splice.{splice, set-is-splice, splice-splice, length-spli
 use Rattle.comparable_range.specs.declared.Side.{Side}
 use Rattle.comparable_range.specs.declared.Side.the-variants.{First, Second}
 use Rattle.comparable_range.specs.declared.Kind.{Kind}
-use Rattle.comparable_range.specs.declared.Kind.the-variants.{Excluded}
 use Rattle.format.specs.Range.{kindOf, kindNumber}
 use Rattle.format.specs.declared.range.BoundSpan.{BoundSpan}
 use Rattle.commit_rows.specs.Numbers.{spanAt, boundNumbers, formOf, cutNumber, formNumber}
 use Rattle.commit_rows.specs.declared.rows.Form.{Form}
 use Rattle.commit_rows.specs.declared.rows.Form.the-variants.{Cut}
-
--- ---- kind_of
-pub kind-other : (n : ℕ) → (n ≡ 0 → ⊥) → (n ≡ 1 → ⊥) → Excluded ≡ kindOf n
-kind-other zero h k = absurd (h refl)
-kind-other (suc zero) h k = absurd (k refl)
-kind-other (suc (suc n)) h k = refl
 
 -- ---- bound_at
 pub bound-read : (t : List ℕ) (at : ℕ) {k : Kind} → k ≡ kindOf (getD t at 0) → record { kind = k; at = getD t (at + 1) 0; len = getD t (at + 2) 0 } ≡ spanAt at t

@@ -18,6 +18,7 @@ use Rattle.commit_rows.specs.declared.runs.RunKind.the-variants.{Other, Source,
 use Rattle.commit_rows.specs.declared.runs.RunRow.{RunRow}
 use Rattle.commit_write.specs.Rows.{viewBytes}
 use Rattle.commit_write.specs.Buckets.{byBucket, destinationRows}
+use Rattle.commit_write.specs.EachLaws.{each-length}
 use Rattle.commit_write.specs.BucketLaws.{by-length, by-each}
 use Rattle.commit_write.specs.Runs.{headBytes, runBytes, runsBytes, newImageBytes, planned, Bucketed}
 use Rattle.commit_write.proofs.RunExits.{other-bytes, source-bytes, destination-run-bytes}
@@ -36,12 +37,6 @@ pub many-flat : {A : Type 0} (w : A → List ℕ) (xs : List A) → flatMap w xs
 unfolding writeMany flatMap
 many-flat w [] = refl
 many-flat w (x ∷ xs) = ap (λ l. w x ++ l) (many-flat w xs)
-
-each-length : {A B : Type 0} (R : A → B → Type 0) (xs : List A) (ys : List B) → Each R xs ys → length xs ≡ length ys
-each-length R [] [] e = refl
-each-length R [] (y ∷ ys) e = absurd e
-each-length R (x ∷ xs) [] e = absurd e
-each-length R (x ∷ xs) (y ∷ ys) e = ap suc (each-length R xs ys (e .1))
 
 module _ (given job ids : List ℕ) (outputs : List Row) where
   -- ---- one run

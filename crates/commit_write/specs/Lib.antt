@@ -1,5 +1,6 @@
 pub mod Put
 pub mod Rows
 pub mod Buckets
+pub mod EachLaws
 pub mod BucketLaws
 pub mod Runs
