@@ -1,19 +1,11 @@
 -- Two lists, element by element: parts of both, the second mapped, and what is true of each.
 -- Assumes nothing.
-use Prim.Native.Nat.{suc}
-use mathlib.Core.Path.{_≡_, refl, ap}
 use mathlib.Core.List.{List, [], _∷_, _++_, map}
 use lib.ListN.{length, take, drop}
 use Rattle.base.specs.Lists.{All}
 use Rattle.base.specs.Rows.{Each}
 
 module _ {A B : Type 0} (R : A → B → Type 0) where
-  pub each-length : (xs : List A) (ys : List B) → Each R xs ys → length xs ≡ length ys
-  each-length [] [] e = refl
-  each-length [] (y ∷ ys) e = absurd e
-  each-length (x ∷ xs) [] e = absurd e
-  each-length (x ∷ xs) (y ∷ ys) e = ap suc (each-length xs ys (e .1))
-
   pub each-front : (xs us : List A) (ys : List B) → Each R (xs ++ us) ys → Each R xs (take (length xs) ys)
   each-front [] us ys e = tt
   each-front (x ∷ xs) us [] e = absurd e
@@ -23,12 +15,6 @@ module _ {A B : Type 0} (R : A → B → Type 0) where
   each-back [] us ys e = e
   each-back (x ∷ xs) us [] e = absurd e
   each-back (x ∷ xs) us (y ∷ ys) e = each-back xs us ys (e .1)
-
-  pub each-append : (xs us : List A) (ys vs : List B) → Each R xs ys → Each R us vs → Each R (xs ++ us) (ys ++ vs)
-  each-append [] us [] vs e d = d
-  each-append [] us (y ∷ ys) vs e d = absurd e
-  each-append (x ∷ xs) us [] vs e d = absurd e
-  each-append (x ∷ xs) us (y ∷ ys) vs e d = (e .0, each-append xs us ys vs (e .1) d)
 
   pub each-map : {C : Type 0} (S : A → C → Type 0) (f : B → C) → ((x : A) (y : B) → R x y → S x (f y)) → (xs : List A) (ys : List B) → Each R xs ys → Each S xs (map f ys)
   each-map S f h [] [] e = tt

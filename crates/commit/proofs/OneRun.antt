@@ -26,10 +26,11 @@ use Rattle.commit_rows.specs.declared.runs.RunKind.the-variants.{Other, Source,
 use Rattle.commit_rows.specs.declared.runs.RunRow.{RunRow}
 use Rattle.commit_plan.specs.Plans.{RunHeld, runBuckets}
 use Rattle.commit_plan.specs.Views.{gapBucket}
+use Rattle.commit_write.specs.EachLaws.{each-length, each-append}
 use Rattle.commit_write.specs.Runs.{runBytes, Bucketed, DestinationFits, RunFits}
 use Rattle.commit_write.proofs.Placed.{RowFor, outputsPlaced, piecesPlaced}
 use Rattle.commit_write.proofs.Made.{other-made, source-made, gaps-made}
-use Rattle.commit.proofs.EachLaws.{each-length, each-append, each-turn}
+use Rattle.commit.proofs.EachLaws.{each-turn}
 use Rattle.commit.proofs.Places.{placed-length, pieces-placed, placed-gaps, outputs-small, pieces-small}
 use Rattle.commit.proofs.RowsMade.{RowMade, row-for, rows-bucketed, rows-bytes}
 use Rattle.commit.proofs.RunCopied.{run-copied, run-stands}

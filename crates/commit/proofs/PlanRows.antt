@@ -26,10 +26,11 @@ use Rattle.commit_entries.specs.Planned.{RowIs}
 use Rattle.commit_outputs.specs.Outputs.{outputBuckets}
 use Rattle.commit_plan.specs.Plans.{RunHeld, RunMade, runBuckets, drawBuckets, CommitPlanned}
 use Rattle.commit_plan.specs.declared.plan.ImagePlan.{ImagePlan}
+use Rattle.commit_write.specs.EachLaws.{each-length}
 use Rattle.commit_write.specs.Runs.{runsIn, planned, allRows}
 use Rattle.commit_write.specs.declared.runs.Counts.{Counts}
 use Rattle.commit_write.proofs.Placed.{outputsPlaced}
-use Rattle.commit.proofs.EachLaws.{each-length, each-front, each-back, each-map}
+use Rattle.commit.proofs.EachLaws.{each-front, each-back, each-map}
 use Rattle.commit.proofs.Places.{placed-append, placed-length, output-buckets-length, outputs-placed, intervals-few}
 use Rattle.commit.proofs.RowsMade.{RowMade, row-made}
 use Rattle.commit.proofs.OneRun.{OutputsMade}
