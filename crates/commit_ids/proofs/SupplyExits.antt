@@ -11,7 +11,9 @@ use Rattle.base.specs.Pick.{pick}
 use Rattle.key.specs.Order.{cmpKey, cmpNumber, orElse, isEqual}
 use Rattle.key.specs.declared.Order.{Order}
 use Rattle.key.proofs.Linear.{number-linear, cmp-self}
+use Rattle.records.specs.declared.ids.TableId.{TableId}
 use Rattle.records.specs.declared.ids.ViewId.{ViewId}
+use Rattle.incremental_progress.specs.Ids.{publishingId}
 use Rattle.incremental_progress.specs.Draws.{Ten, tens, supply, Drawn, used-up, got, newId, isOld, draw}
 use Rattle.incremental_progress.specs.declared.Draw.{Draw}
 use Rattle.incremental_progress.specs.declared.Draw.the-variants.{At, UsedUp}
@@ -105,3 +107,7 @@ module _ (a b : List ℕ) {o : Order} (ho : o ≡ cmpKey a b) {t : Bool} (ht : t
   other-bytes e = let z : isEqual (cmpKey a b) ≡ false = cc in rw z
 
 pub ruleset differs = (same-bytes, other-bytes)
+
+-- ---- published_id
+pub published-is : (x : List ℕ) {id : TableId} {old : ViewId} → id .0 ≡ x → old ≡ publishingId id → old .0 ≡ x
+published-is x e f = ap (λ (i : ViewId). i .0) f ∙ e

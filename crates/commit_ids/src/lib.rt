@@ -26,11 +26,19 @@ pub fn view_id_at(s: &[u8], at: usize) -> ViewId
 }
 
 // The id of the view that publishes a table: the one place where an id of one kind becomes one of the other.
-pub fn publishing_id(id: TableId) -> ViewId
+fn publishing_id(id: TableId) -> ViewId
     ensures { λ r. ⌜ r ≡ publishingId id ⌝ }
 {
     let bytes = id.0;
     ViewId(bytes)
+}
+
+// The id of the view that publishes the table whose id stands at a place.
+pub fn published_id(s: &[u8], at: usize) -> ViewId
+    requires { ⌜ at + 16 ≤ length (now s) ⌝ }
+    ensures { λ r. ⌜ r .0 ≡ take 16 (drop at (now (s .entry))) ⌝ }
+{
+    publishing_id(records::table_id_at(s, at))
 }
 
 fn differ(a: &[u8], b: &[u8]) -> bool

@@ -2,7 +2,7 @@
 -- Assumes nothing.
 use Prim.Native.Nat.{ℕ, _+_, _-_, _*_, _≤_}
 use native.Mathlib.Omega.{arith}
-use mathlib.Core.Path.{_≡_, refl, sym, ap, subst, _∙_}
+use mathlib.Core.Path.{_≡_, refl, sym, ap, _∙_}
 use mathlib.Core.Bool.{Bool, true, false}
 use mathlib.Core.Option.{Option, none, some}
 use mathlib.Core.List.{List, [], _∷_}
@@ -11,34 +11,32 @@ use Rattle.base.specs.Bytes.{Bytes}
 use Rattle.base.specs.Pick.{pick}
 use Rattle.key.specs.Order.{Key, cmpKey, isEqual}
 use Rattle.key.specs.declared.Order.{Order}
-use Rattle.comparable_range.specs.Range.{Bound, Range, boundOf, nonEmpty, overlap}
+use Rattle.comparable_range.specs.Range.{Range, boundOf, nonEmpty, overlap}
 use Rattle.comparable_range.specs.declared.Kind.the-variants.{Unbounded}
 use Rattle.format.specs.Range.{boundIn, rangeIn, BoundInside, writeRange}
 use Rattle.format.specs.declared.range.BoundSpan.{BoundSpan}
-use Rattle.records.specs.Values.{Table, View}
-use Rattle.records.specs.Layouts.{table, view}
+use Rattle.records.specs.Values.{Table}
+use Rattle.records.specs.Layouts.{table}
 use Rattle.records.specs.Spans.{ifSo, keyIn, tableIn, TableInside}
 use Rattle.records.specs.There.{TableThere}
-use Rattle.records.specs.declared.ids.TableId.{TableId}
 use Rattle.records.specs.declared.ids.ViewId.{ViewId}
 use Rattle.records.specs.declared.tables.TableSpan.{TableSpan}
 use Rattle.manifest.specs.Ranges.{own, lastBound}
 use Rattle.manifest.specs.Spans.{firstSpan, lastKind, lastSpan}
 use Rattle.incremental_progress.specs.Intervals.{Interval, toRange}
-use Rattle.incremental_progress.specs.Ids.{publishingId}
 use Rattle.incremental_progress.specs.Parts.{isKey, identity}
-use Rattle.incremental_progress.specs.Entries.{Entry, whole, cut, outputEntries}
-use Rattle.commit_rows.specs.Bytes.{between, RowInside, rowBytes, rowRange, rowLength}
+use Rattle.incremental_progress.specs.Entries.{whole, cut, outputEntries}
+use Rattle.commit_rows.specs.Bytes.{rowBytes, rowRange, rowLength}
 use Rattle.commit_rows.specs.declared.parts.PartSpan.{PartSpan}
 use Rattle.commit_rows.specs.declared.rows.Form.the-variants.{Output, CutOutput}
 use Rattle.commit_rows.specs.declared.rows.Row.{Row}
 use Rattle.commit_durable.specs.Tables.{intervalIn, openIn}
-use Rattle.commit_entries.specs.Planned.{RowSmall, PlanReady, Added, AddedCut, PlannedMore, WholeRow, CutRow}
+use Rattle.commit_entries.specs.Planned.{RowSmall, PlanReady, Added, AddedCut, WholeRow, CutRow}
 use Rattle.commit_entries.specs.declared.Plan.{Plan}
 use Rattle.commit_entries.proofs.Planning.{planned-none, planned-whole, planned-cut}
 use Rattle.commit_entries.proofs.Standing.{table-stands, table-id, table-id-long, table-id-within}
 use Rattle.commit_entries.proofs.RowBytes.{cut-view-bytes, cut-entry-bytes, identity-bytes, new-id-bytes, range-length, cut-length, whole-length}
-use Rattle.commit_outputs.specs.Outputs.{IntervalHeld, entriesIn, insideAs, publishedAs, entriesAs, bucketed, PlannedIn}
+use Rattle.commit_outputs.specs.Outputs.{IntervalHeld, entriesIn, insideAs, publishedAs, entriesAs, PlannedIn}
 use Rattle.commit_outputs.specs.declared.output.Published.{Published}
 use Rattle.commit_outputs.specs.declared.output.Published.the-variants.{Left, Whole, Cut}
 
@@ -127,10 +125,6 @@ module _ (s : List ℕ) (t : TableSpan) (h : PartSpan) where
     as-inside q w = rw (e, ← hb, q) w
 
 pub ruleset as-exits = (as-cut, as-left, as-completed, as-whole, as-inside, interval-end)
-
--- ---- published_id
-pub published-is : (x : List ℕ) {id : TableId} {old : ViewId} → id .0 ≡ x → old ≡ publishingId id → old .0 ≡ x
-published-is x e f = ap (λ (i : ViewId). i .0) f ∙ e
 
 -- ---- plan_output
 pub entries-are : (cutting : Option Key) (iv : Interval) (t : Table) → outputEntries cutting iv t ≡ entriesAs iv t (publishedAs cutting iv t)

@@ -9,7 +9,6 @@ use comparable_range::Kind;
 use format::BoundSpan;
 use format::span::RangeSpan;
 use records::TableSpan;
-use records::ViewId;
 ghost use mathlib.Core.Path.{_≡_};
 ghost use Prim.Native.Nat.{_≤_, _+_};
 ghost use lib.ListN.{length, take, drop};
@@ -89,14 +88,6 @@ fn published_as(job: &[u8], t: TableSpan, h: PartSpan) -> Published
     Published::Whole
 }
 
-// The id of the view that publishes the output at a place.
-fn published_id(job: &[u8], at: usize) -> ViewId
-    requires { ⌜ at + 16 ≤ length (now job) ⌝ }
-    ensures { λ r. ⌜ r .0 ≡ take 16 (drop at (now (job .entry))) ⌝ }
-{
-    commit_ids::publishing_id(records::table_id_at(job, at))
-}
-
 // The output at a place of the job, in a bucket.
 pub fn plan_output(
     job: &[u8],
@@ -144,7 +135,7 @@ pub fn plan_output(
                 end,
                 ten: 0,
             };
-            add_cut(published_id(job, at), ids, rows, p, row)
+            add_cut(commit_ids::published_id(job, at), ids, rows, p, row)
         }
     }
 }

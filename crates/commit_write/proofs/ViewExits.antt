@@ -19,9 +19,6 @@ use Rattle.format.specs.Number.{writeNumber}
 use Rattle.format.specs.Key.{writeKey}
 use Rattle.format.specs.Range.{headByte, kindOfBound, BoundInside, writeBound, writeRange}
 use Rattle.format.proofs.Layouts.{number-length, key-length}
-use Rattle.records.specs.declared.ids.TableId.{TableId}
-use Rattle.records.specs.declared.ids.ViewId.{ViewId}
-use Rattle.incremental_progress.specs.Ids.{publishingId}
 use Rattle.commit_rows.specs.Bytes.{between, newIdBytes, cutBytes, wholeBytes, rowRange, RowInside, rowBytes}
 use Rattle.commit_rows.specs.declared.rows.Form.the-variants.{Whole, Output, CutOutput, Cut}
 use Rattle.commit_rows.specs.declared.rows.Row.{Row}
@@ -29,9 +26,6 @@ use Rattle.commit_write.specs.Put.{Put, sidedRange}
 use Rattle.commit_write.proofs.Pieces.{put-here, put-none, put-same, put-length, first-room, second-room, both-put, both-length, one-room, two-room, three-room, all-put, all-length}
 
 -- ---- ids
--- the id of the view that publishes the table whose id was read
-pub published-is : (x : List ℕ) {id : TableId} {old : ViewId} → id .0 ≡ x → old ≡ publishingId id → old .0 ≡ x
-published-is x e f = ap (λ (i : ViewId). i .0) f ∙ e
 
 -- the first bytes of an id that was read at a place stand there
 time-is : (s : List ℕ) (at : ℕ) {id : List ℕ} → id ≡ take 16 (drop at s) → take 6 id ≡ between s at (at + 6)

@@ -108,7 +108,7 @@ fn put_output(job: &[u8], a: usize, b: usize, out: &mut [u8], to: usize) -> usiz
     requires { ⌜ a + 16 ≤ b ⌝ ∗ ⌜ b ≤ length (now job) ⌝ ∗ ⌜ to + length (wholeBytes (between (now job) a (a + 16)) (between (now job) a b)) ≤ length (now out) ⌝ }
     ensures { λ r. ⌜ Put (now (out .entry)) to (wholeBytes (between (now (job .entry)) a (a + 16)) (between (now (job .entry)) a b)) (now (out .exit)) r ⌝ }
 {
-    let id = commit_ids::publishing_id(records::table_id_at(job, a));
+    let id = commit_ids::published_id(job, a);
     let table = put_id(id, out, to);
     let flag = put_part(job, a, b, out, table);
     format::put_byte(out, flag, 0);
@@ -127,7 +127,7 @@ fn put_cut_output<'a>(
     requires { ⌜ RowInside (now image) (now job) (now ids) r ⌝ ∗ ⌜ r .form ≡ CutOutput ⌝ ∗ ⌜ to + length (rowBytes (now image) (now job) (now ids) r) ≤ length (now out) ⌝ }
     ensures { λ z. ⌜ Put (now (out .entry)) to (rowBytes (now (image .entry)) (now (job .entry)) (now (ids .entry)) r) (now (out .exit)) z ⌝ }
 {
-    let old = commit_ids::publishing_id(records::table_id_at(job, r.at));
+    let old = commit_ids::published_id(job, r.at);
     let table = put_new_id(old, ids, r.ten, out, to);
     let flag = put_part(job, r.at, r.past, out, table);
     put_visible(image, job, Side::Second, Side::Second, r, out, flag)

@@ -1,34 +1,31 @@
 -- `commit_write::views::put_output` meets its contract.
 -- Assumes nothing.
-use Rattle.commit_write.proofs.ViewExits.{published-is, output-exits}
+use Rattle.commit_write.proofs.ViewExits.{output-exits}
 use borrow.Author.Needs.{needs}
 use Rattle.commit_write.proofs.views.put_output.Statement.{statement}
 use Rattle.commit_write.proofs.views.put_output.Tie as tie
 
-table-id-at-requires : tie.Need-table-id-at-requires
-table-id-at-requires c κs = search (needs, output-exits)
-
-publishing-id-requires : tie.Need-publishing-id-requires
-publishing-id-requires c κs = search (needs, output-exits)
+published-id-requires : tie.Need-published-id-requires
+published-id-requires c κs = search (needs, output-exits)
 
 put-id-requires : tie.Need-put-id-requires
 put-id-requires c κs =
-    let i = published-is _ (c .before .before .table-id-at .ensures) (c .before .publishing-id .ensures) in
+    let i = c .before .published-id .ensures in
     search (needs, output-exits, i)
 
 put-part-requires : tie.Need-put-part-requires
 put-part-requires c κs =
-    let i = published-is _ (c .before .before .before .before .before .before .table-id-at .ensures) (c .before .before .before .before .before .publishing-id .ensures) in
+    let i = c .before .before .before .before .before .published-id .ensures in
     (search (needs, output-exits), (search (needs, output-exits), search (needs, output-exits, i)))
 
 put-byte-requires : tie.Need-put-byte-requires
 put-byte-requires c κs =
-    let i = published-is _ (c .before .before .before .before .before .before .before .before .before .before .table-id-at .ensures) (c .before .before .before .before .before .before .before .before .before .publishing-id .ensures) in
+    let i = c .before .before .before .before .before .before .before .before .before .published-id .ensures in
     search (needs, output-exits, i)
 
 add-result : tie.Need-add-result
 add-result c =
-    let i = published-is _ (c .before .before .before .before .before .before .before .before .before .before .before .before .before .table-id-at .ensures) (c .before .before .before .before .before .before .before .before .before .before .before .before .publishing-id .ensures) in
+    let i = c .before .before .before .before .before .before .before .before .before .before .before .before .published-id .ensures in
     search (needs, output-exits, i)
 
 same-length : tie.Need-same-length
@@ -36,15 +33,14 @@ same-length c = search (needs, output-exits)
 
 returns : tie.Need-returns
 returns c =
-    let i = published-is _ (c .before .before .before .before .before .before .before .before .before .before .before .before .before .table-id-at .ensures) (c .before .before .before .before .before .before .before .before .before .before .before .before .publishing-id .ensures) in
+    let i = c .before .before .before .before .before .before .before .before .before .before .before .before .published-id .ensures in
     search (needs, output-exits, i)
 
 pub put-output-spec : {M : Type 1} → statement M
 put-output-spec =
     tie.close
     (tie.spec
-    table-id-at-requires
-    publishing-id-requires
+    published-id-requires
     put-id-requires
     put-part-requires
     put-byte-requires

@@ -1,9 +1,9 @@
--- `commit_outputs::output::published_id` meets its contract.
+-- `commit_ids::published_id` meets its contract.
 -- Assumes nothing.
-use Rattle.commit_outputs.proofs.OutputExits.{published-is}
+use Rattle.commit_ids.proofs.SupplyExits.{published-is}
 use borrow.Author.Needs.{needs}
-use Rattle.commit_outputs.proofs.output.published_id.Statement.{statement}
-use Rattle.commit_outputs.proofs.output.published_id.Tie as tie
+use Rattle.commit_ids.proofs.published_id.Statement.{statement}
+use Rattle.commit_ids.proofs.published_id.Tie as tie
 
 table-id-at-requires : tie.Need-table-id-at-requires
 table-id-at-requires c κs = search (needs, published-is)
