@@ -4,20 +4,25 @@
 use Prim.Native.Nat.{ℕ, _+_, _*_, _≤_, _<_}
 use native.Mathlib.Omega.{arith}
 use mathlib.Core.Path.{_≡_, refl, sym, ap, _∙_}
-use mathlib.Core.Bool.{true, false}
+use mathlib.Core.Bool.{Bool, true, false, _&&_}
 use mathlib.Core.Option.{Option, none, some}
 use mathlib.Core.List.{List, [], _∷_, _++_, flatMap, append-nil}
 use lib.ListN.{length, take, drop, length-append}
 use lib.Seq.{take-add, take-all}
 use Rattle.base.specs.Lists.{flatMap-append}
+use Rattle.base.specs.Pick.{pick}
 use Rattle.base.specs.Rows.{RowsHold, hold-none, hold-more}
 use Rattle.base.specs.Splice.{splice, spliced-length}
-use Rattle.comparable_range.specs.Range.{Bound, unbounded, Range}
+use Rattle.key.specs.Order.{Key}
+use Rattle.comparable_range.specs.Range.{Bound, unbounded, Range, boundOf}
+use Rattle.comparable_range.specs.Factors.{isKeyed}
+use Rattle.comparable_range.specs.declared.Kind.{Kind}
 use Rattle.comparable_range.specs.declared.Kind.the-variants.{Unbounded, Included, Excluded}
 use Rattle.format.specs.Range.{boundIn, BoundInside}
 use Rattle.format.specs.declared.range.BoundSpan.{BoundSpan}
 use Rattle.format.specs.declared.span.RangeSpan.{RangeSpan}
 use Rattle.records.specs.Values.{Part}
+use Rattle.records.specs.Spans.{ifSo}
 use Rattle.incremental_progress.specs.Intervals.{Interval, listed}
 use Rattle.incremental_progress.specs.Parts.{keyOf, durable, intervals}
 use Rattle.incremental_progress.specs.Gaps.{void, gapTo, lastGap, gapFrom, gapsFrom, gaps}
@@ -25,35 +30,38 @@ use Rattle.commit_rows.specs.Numbers.{gapNumbers}
 use Rattle.commit_rows.specs.declared.parts.PartSpan.{PartSpan}
 use Rattle.commit_rows.proofs.RowExits.{gap-back}
 use Rattle.commit_durable.specs.Tables.{jobOf, jobGaps, intervalIn, PartsHold, PartFound, GapHeld, GapIs}
-use Rattle.commit_durable.specs.Answers.{startIn, StartInside, StartFound, GapsMade}
+use Rattle.commit_durable.specs.Answers.{withKind, startIn, StartInside, StartFound, GapsMade}
 use Rattle.commit_durable.specs.declared.gaps.GapStart.{GapStart}
-
-abbrev excludedSpan : BoundSpan → BoundSpan
-excludedSpan b = record { kind = Excluded; at = b .at; len = b .len }
-
-abbrev includedSpan : BoundSpan → BoundSpan
-includedSpan b = record { kind = Included; at = b .at; len = b .len }
 
 abbrev openSpan : BoundSpan
 openSpan = record { kind = Unbounded; at = 0; len = 0 }
 
 -- ---- gap_to
-module _ (s : List ℕ) (g : GapStart) (b : BoundSpan) where
-  pub no-start : {r : RangeSpan} → g .there ≡ false → GapHeld s void r → GapHeld s (gapTo (startIn s g) (keyOf (boundIn s b))) r
-  no-start e f = rw e f
+module _ (s : List ℕ) (g : GapStart) (b : BoundSpan) {t u : Bool} (h : t ≡ isKeyed (b .kind)) (f : u ≡ (g .there && t)) where
+  to-by : gapTo (startIn s g) (keyOf (boundIn s b)) ≡ pick u (record { start = boundIn s (g .bound); end = boundIn s (withKind Excluded b) }) void
+  to-by = rw (f, h) (go (g .there) (boundIn s (g .bound)) (b .kind) (take (b .len) (drop (b .at) s)))
+    where
+      go :
+          (w : Bool) (a : Bound) (k : Kind) (x : Key)
+          → gapTo (ifSo w a) (keyOf (boundOf k x)) ≡ pick (w && isKeyed k) (record { start = a; end = boundOf (pick (isKeyed k) Excluded k) x }) void
+      go false a k x = refl
+      go true a Unbounded x = refl
+      go true a Included x = refl
+      go true a Excluded x = refl
 
-  module _ (e : g .there ≡ true) where
-    pub no-end : {r : RangeSpan} → b .kind ≡ Unbounded → GapHeld s void r → GapHeld s (gapTo (startIn s g) (keyOf (boundIn s b))) r
-    no-end q f = rw (e, q) f
+  pub no-gap : {r : RangeSpan} → u ≡ false → GapHeld s void r → GapHeld s (gapTo (startIn s g) (keyOf (boundIn s b))) r
+  no-gap e y = rw (to-by, e) y
 
-    module _ (hg : StartInside s g) (hb : BoundInside s b) where
-      pub to-included : b .kind ≡ Included → GapHeld s (gapTo (startIn s g) (keyOf (boundIn s b))) (record { start = g .bound; end = excludedSpan b })
-      to-included q = record { is = rw (e, q); start = hg; end = hb }
+  pub gap-there :
+      {j : BoundSpan}
+      → u ≡ true
+      → StartInside s g
+      → BoundInside s b
+      → j ≡ withKind Excluded b
+      → GapHeld s (gapTo (startIn s g) (keyOf (boundIn s b))) (record { start = g .bound; end = j })
+  gap-there e hg hb y = rw y (record { is = rw (to-by, e); start = hg; end = hb })
 
-      pub to-excluded : b .kind ≡ Excluded → GapHeld s (gapTo (startIn s g) (keyOf (boundIn s b))) (record { start = g .bound; end = excludedSpan b })
-      to-excluded q = record { is = rw (e, q); start = hg; end = hb }
-
-pub ruleset to-exits = (no-start, no-end, to-included, to-excluded)
+pub ruleset to-exits = (no-gap, gap-there)
 
 -- ---- last_gap
 module _ (s : List ℕ) (g : GapStart) where
@@ -66,17 +74,18 @@ module _ (s : List ℕ) (g : GapStart) where
 pub ruleset last-exits = (none-last, to-the-end)
 
 -- ---- gap_from
-module _ (s : List ℕ) (b : BoundSpan) (h : BoundInside s b) where
-  pub from-none : b .kind ≡ Unbounded → StartFound s (gapFrom (keyOf (boundIn s b))) (record { there = false; bound = includedSpan b })
-  from-none e = record { is = rw e; inside = h }
-
-  pub from-included : b .kind ≡ Included → StartFound s (gapFrom (keyOf (boundIn s b))) (record { there = true; bound = includedSpan b })
-  from-included e = record { is = rw e; inside = h }
-
-  pub from-excluded : b .kind ≡ Excluded → StartFound s (gapFrom (keyOf (boundIn s b))) (record { there = true; bound = includedSpan b })
-  from-excluded e = record { is = rw e; inside = h }
-
-pub ruleset from-exits = (from-none, from-included, from-excluded)
+pub from-is :
+    (s : List ℕ) (b i : BoundSpan) {t : Bool}
+    → BoundInside s b
+    → t ≡ isKeyed (b .kind)
+    → i ≡ withKind Included b
+    → StartFound s (gapFrom (keyOf (boundIn s b))) (record { there = t; bound = i })
+from-is s b i h e y = rw (e, y) (record { is = go (b .kind) (take (b .len) (drop (b .at) s)); inside = h })
+  where
+    go : (k : Kind) (x : Key) → ifSo (isKeyed k) (boundOf (pick (isKeyed k) Included k) x) ≡ gapFrom (keyOf (boundOf k x))
+    go Unbounded x = refl
+    go Included x = refl
+    go Excluded x = refl
 
 -- ---- the gaps before intervals, and where the one after them starts
 unfoldable pub closed : Option Bound → List Interval → List Range
