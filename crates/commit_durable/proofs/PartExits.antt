@@ -6,7 +6,6 @@ use native.Mathlib.Omega.{arith}
 use native.Mathlib.Nat.{add-zero}
 use mathlib.Core.Path.{_≡_, refl, sym, ap, _∙_}
 use mathlib.Core.Bool.{Bool, true, false, not, _&&_}
-use mathlib.Core.Option.{Option}
 use mathlib.Core.List.{List, [], _∷_, _++_}
 use lib.ListN.{length, take, drop, length-append}
 use lib.Dec.{eqb}
@@ -35,12 +34,12 @@ use Rattle.manifest.specs.Checks.{all, isExcluded}
 use Rattle.manifest.specs.Faults.{faultOf, least, planned}
 use Rattle.manifest.proofs.Steps.{all-more, parts-none, parts-more}
 use Rattle.incremental_progress.specs.Checks.{isIncluded, plannedFrom, outputsInside}
-use Rattle.incremental_progress.specs.Parts.{lastWritten, durable, openKey}
+use Rattle.incremental_progress.specs.Parts.{durable, openKey}
 use Rattle.commit_rows.specs.Numbers.{partNumbers}
 use Rattle.commit_rows.specs.declared.parts.PartSpan.{PartSpan}
 use Rattle.commit_rows.proofs.RowExits.{part-back}
 use Rattle.commit_durable.specs.Faults.{plannedAfter}
-use Rattle.commit_durable.specs.Tables.{PartHeld, PartIs}
+use Rattle.commit_durable.specs.Tables.{PartIs}
 use Rattle.commit_durable.specs.Answers.{lastIn, LastInside, OutputsPassed, RowMade, halfOpen, cutOf, partMore, partFault, PartGot, PartPassed, PartsTold, PartsPassed}
 use Rattle.commit_durable.specs.declared.outputs.Outputs.{Outputs}
 use Rattle.commit_durable.specs.declared.outputs.OutputsRead.{OutputsRead}
@@ -115,29 +114,6 @@ rangeOf i j = record { start = i; end = j }
 abbrev partWith : Range → Bool → ℕ → List Table → Part
 partWith r c m ts = partOf (r, ((c, m), ts))
 
-row-held :
-    (s : List ℕ) (i j : BoundSpan) (c : Bool) (m next past : ℕ) (ts : List Table) {l : Option Key} {h : PartSpan}
-    → l ≡ lastWritten ts
-    → RowMade s (rangeOf i j) c m next l h
-    → next ≤ length s
-    → m ≤ 1024
-    → readMany (table .read) m (drop next s) ≡ got ts (drop past s)
-    → PartHeld s (partWith (rangeIn s i j) c m ts) h
-unfolding durable openKey
-row-held s i j c m next past ts e x f k g =
-    let y = rw e at x in
-    record {
-      durable-is = y .is;
-      range = y .range;
-      open-is = y .open-is;
-      start = y .start;
-      end = y .end;
-      first = rw (x .first-is) f;
-      few = rw (x .outputs-is) k;
-      past = drop past s;
-      outputs-are = rw (x .outputs-is, x .first-is) g;
-    }
-
 module _ (s : List ℕ) (k : ℕ) (p : PartsSeen) (t : List ℕ) {r : PartRead} (f : PartFound s (partHead .read (drop (p .past) s)) r) where
   abbrev Passed : List ℕ → PartsJudged → Type 0
   Passed = PartPassed s (part .read (drop (p .past) s)) k p t
@@ -178,9 +154,10 @@ module _ (s : List ℕ) (k : ℕ) (p : PartsSeen) (t : List ℕ) {r : PartRead} 
             → u ≡ splice t (k * 10) (partNumbers h)
             → e ≡ partMore s (eqb k 0) p (rangeOf i j) o
             → Passed u (At e)
-        unfolding outputsInside
+        unfolding outputsInside durable openKey
         part-done {h} room hh hu he =
             let w = rw y at (x .is) in
+            let v = rw (w .told .last) at hh in
             rw he
             (record {
               is =
@@ -194,7 +171,18 @@ module _ (s : List ℕ) (k : ℕ) (p : PartsSeen) (t : List ℕ) {r : PartRead} 
                     end = refl;
                     end-in = end-inside;
                     row = h;
-                    held = row-held s i j c m next (o .past) (w .tables) (w .told .last) hh outputs-from few-outputs (w .is);
+                    held =
+                        record {
+                          durable-is = v .is;
+                          range = v .range;
+                          open-is = v .open-is;
+                          start = v .start;
+                          end = v .end;
+                          first = rw (v .first-is) outputs-from;
+                          few = rw (v .outputs-is) few-outputs;
+                          past = drop (o .past) s;
+                          outputs-are = rw (v .outputs-is, v .first-is) (w .is);
+                        };
                     put = hu;
                   };
               same = spliced-length t (k * 10) (partNumbers h) hu room;
@@ -285,7 +273,7 @@ module _ {s : List ℕ} {from n : ℕ} {d t : List ℕ} {k : ℕ} {p : PartsSeen
                 record {
                   place = v .place;
                   fault = v .fault ∙ ap (λ f. least f (partFault a)) (q .told .fault) ∙ sym (parts-more (q .seen) a);
-                  planned = v .planned ∙ rw (q .cut) (ap (λ b. b && plannedAfter (cutPast partCut below (q .seen)) (a .planned)) (q .told .planned)) ∙ sym (planned-more (q .seen) a);
+                  planned = v .planned ∙ rw (q .cut) (ap (λ b. b && plannedAfter (cutPast partCut below (q .seen)) (a .planned)) (q .told .planned)) ∙ sym (planned-more below (q .seen) a);
                   inside = v .inside ∙ ap (λ b. b && outputsInside a) (q .told .inside) ∙ sym (all-more outputsInside (q .seen) a);
                 };
             rows = rw (v .put) (rw (q .count) at o);

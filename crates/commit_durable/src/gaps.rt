@@ -103,14 +103,12 @@ pub fn gaps_of(job: &[u8], parts: &[usize], n: usize, gaps: &mut [usize]) -> usi
     };
     while k < n {
         let p = part_at(job, parts, n, k);
+        k += 1;
         if p.durable {
             let gap = gap_to(job, from, p.start);
             commit_rows::put_gap(gaps, made, gap.start, gap.end);
             from = gap_from(job, p.end);
             made += 1;
-            k += 1;
-        } else {
-            k += 1;
         }
     }
     let gap = last_gap(job, from);
