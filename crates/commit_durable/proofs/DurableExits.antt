@@ -34,29 +34,22 @@ module _ (b : BoundSpan) (k : Kind) {t : Bool} (h : t ≡ isKeyed (b .kind)) whe
 pub ruleset kind-exits = (kind-set, kind-stays)
 
 -- ---- is_key
--- a bound has a key exactly if its kind has one
-pub key-by : (k : Kind) (x : Key) → keyOf (boundOf k x) ≡ ifSo (isKeyed k) x
-key-by Unbounded x = refl
-key-by Included x = refl
-key-by Excluded x = refl
-
-module _ (s : List ℕ) (b k : BoundSpan) {t : Bool} (h : t ≡ isKeyed (b .kind)) where
-  pub no-key : t ≡ false → false ≡ isKey (keyOf (boundIn s b)) (take (k .len) (drop (k .at) s))
-  unfolding isKey
-  no-key e = rw (key-by (b .kind) (take (b .len) (drop (b .at) s)), ← h, e)
-
-  pub same-key :
-      {x y : Key} {o : Order} {u : Bool}
-      → t ≡ true
-      → x ≡ take (b .len) (drop (b .at) s)
-      → y ≡ take (k .len) (drop (k .at) s)
-      → o ≡ cmpKey x y
-      → u ≡ isEqual o
-      → u ≡ isKey (keyOf (boundIn s b)) (take (k .len) (drop (k .at) s))
-  unfolding isKey
-  same-key e ex ey eo eu = rw (key-by (b .kind) (take (b .len) (drop (b .at) s)), ← h, e, ← ex, ← ey, ← eo) eu
-
-pub ruleset key-exits = (no-key, same-key)
+pub key-is :
+    (s : List ℕ) (b k : BoundSpan) {x y : Key} {o : Order} {u t r : Bool}
+    → x ≡ take (b .len) (drop (b .at) s)
+    → y ≡ take (k .len) (drop (k .at) s)
+    → o ≡ cmpKey x y
+    → u ≡ isEqual o
+    → t ≡ isKeyed (b .kind)
+    → r ≡ (t && u)
+    → r ≡ isKey (keyOf (boundIn s b)) (take (k .len) (drop (k .at) s))
+unfolding isKey
+key-is s b k ex ey eo eu et er = er ∙ rw (et, eu, eo, ex, ey) (go (b .kind) (take (b .len) (drop (b .at) s)) (take (k .len) (drop (k .at) s)))
+  where
+    go : (k : Kind) (x y : Key) → (isKeyed k && isEqual (cmpKey x y)) ≡ isKey (keyOf (boundOf k x)) y
+    go Unbounded x y = refl
+    go Included x y = refl
+    go Excluded x y = refl
 
 -- ---- row_of
 -- a bound as a start or an end of an interval

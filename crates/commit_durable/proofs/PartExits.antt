@@ -5,7 +5,7 @@ use Prim.Native.Nat.{ℕ, _+_, _*_, _-_, _≤_, _<_}
 use native.Mathlib.Omega.{arith}
 use native.Mathlib.Nat.{add-zero}
 use mathlib.Core.Path.{_≡_, refl, sym, ap, _∙_}
-use mathlib.Core.Bool.{Bool, true, false, not, _&&_}
+use mathlib.Core.Bool.{Bool, true, false, not, _&&_, and-true, and-assoc}
 use mathlib.Core.List.{List, [], _∷_, _++_}
 use lib.ListN.{length, take, drop, length-append}
 use lib.Dec.{eqb}
@@ -75,25 +75,15 @@ half-open Included Excluded x y = refl
 module _ (s : List ℕ) (first : Bool) (b i j : BoundSpan) {h : Bool} (e : h ≡ halfOpen (i .kind) (j .kind)) where
   opened : plannedAfter (cutOf first (boundIn s b)) (rangeIn s i j) ≡ (h && cutAtMost (cutOf first (boundIn s b)) (startCut (boundIn s i)))
   unfolding plannedAfter
-  opened =
-      rw (e, half-open (i .kind) (j .kind) (take (i .len) (drop (i .at) s)) (take (j .len) (drop (j .at) s)))
-      (go (not (isExcluded (boundIn s i))) (not (isIncluded (boundIn s j))) (cutAtMost (cutOf first (boundIn s b)) (startCut (boundIn s i))))
-    where
-      go : (a b c : Bool) → (a && b && c) ≡ ((a && b) && c)
-      go true b c = refl
-      go false b c = refl
+  opened = rw (e, half-open (i .kind) (j .kind) (take (i .len) (drop (i .at) s)) (take (j .len) (drop (j .at) s))) (simp and-assoc)
 
-  pub wrong-kinds : h ≡ false → false ≡ plannedAfter (cutOf first (boundIn s b)) (rangeIn s i j)
-  wrong-kinds z = sym (opened ∙ rw z)
+  pub first-part : first ≡ true → h ≡ plannedAfter (cutOf first (boundIn s b)) (rangeIn s i j)
+  first-part f = sym (opened ∙ rw (f, below-≼ (startCut (boundIn s i)) .holds) (and-true h))
 
-  module _ (z : h ≡ true) where
-    pub first-part : first ≡ true → true ≡ plannedAfter (cutOf first (boundIn s b)) (rangeIn s i j)
-    first-part f = sym (opened ∙ rw (z, f) (below-≼ (startCut (boundIn s i)) .holds))
+  pub next-part : {t r : Bool} → first ≡ false → t ≡ nonEmpty (rangeIn s i b) → r ≡ (h && not t) → r ≡ plannedAfter (cutOf first (boundIn s b)) (rangeIn s i j)
+  next-part f w z = z ∙ ap (λ x. h && x) (ap not w ∙ after-by-cuts (rangeIn s i b)) ∙ sym (opened ∙ rw f)
 
-    pub next-part : {t : Bool} → first ≡ false → t ≡ nonEmpty (rangeIn s i b) → not t ≡ plannedAfter (cutOf first (boundIn s b)) (rangeIn s i j)
-    next-part f w = ap not w ∙ after-by-cuts (rangeIn s i b) ∙ sym (opened ∙ rw (z, f))
-
-pub ruleset after-exits = (wrong-kinds, first-part, next-part)
+pub ruleset after-exits = (first-part, next-part)
 
 -- ---- part_more
 pub more-is :

@@ -33,10 +33,8 @@ fn is_key(job: &[u8], b: BoundSpan, k: BoundSpan) -> bool
     ensures { λ r. ⌜ r ≡ isKey (keyOf (boundIn (now (job .entry)) b)) (take (k .len) (drop (k .at) (now (job .entry)))) ⌝ }
 {
     let kind = b.kind;
-    if keyed(kind) {
-        return key::is_equal(key::cmp(format::key_of(job, b), format::key_of(job, k)));
-    }
-    false
+    let equal = key::is_equal(key::cmp(format::key_of(job, b), format::key_of(job, k)));
+    both(keyed(kind), equal)
 }
 
 // The row of a part. Completed, all that was planned is durable; or else what lies before the last written key, if that is

@@ -62,13 +62,11 @@ fn planned_after(job: &[u8], first: bool, before: BoundSpan, r: RangeSpan) -> bo
     let end = r.end;
     let ks = start.kind;
     let ke = end.kind;
-    if half_open(ks, ke) {
-        if first {
-            return true;
-        }
-        return !span::passes(job, start, job, before);
+    let kinds = half_open(ks, ke);
+    if first {
+        return kinds;
     }
-    false
+    both(kinds, !span::passes(job, start, job, before))
 }
 
 // Of the parts read so far: the place past them, the first of the checks 4, 5 and 7 that they fail or 8, whether they pass
