@@ -121,20 +121,11 @@ gaps-begin s n u d p h =
     }
 
 module _ {s : List ℕ} {k : ℕ} {x : PartSpan} (f : PartFound s k x) where
-  pub part-start-in : BoundInside s (x .start)
-  part-start-in = f .held .start
-
-  pub part-end-in : BoundInside s (x .end)
-  part-end-in = f .held .end
-
   left-is : intervals (drop k (jobOf s .parts)) ≡ listed (durableIn s x) ++ intervals (drop (k + 1) (jobOf s .parts))
   unfolding intervals flatMap
   left-is = ap intervals (f .is) ∙ rw (f .held .durable-is)
 
 module _ {s : List ℕ} {n : ℕ} {d t : List ℕ} {k r : ℕ} {g : GapStart} (p : GapsKept s n d t k r g) where
-  pub gaps-inside : StartInside s g
-  gaps-inside = p .inside
-
   pub gaps-room : r * 6 + 6 ≤ length t
   gaps-room = omega (arith, p .few, p .upto, p .most, p .room, p .same)
 
@@ -207,4 +198,4 @@ module _ {s : List ℕ} {n : ℕ} {d t : List ℕ} {k r : ℕ} {g : GapStart} (p
         same = gaps-same (m .start) (m .end) w;
       }
 
-pub ruleset gaps-exits = (gaps-begin, gaps-inside, gaps-room, gaps-same, part-start-in, part-end-in, gaps-none, gaps-onward, gaps-all)
+pub ruleset gaps-exits = (gaps-begin, gaps-room, gaps-same, gaps-none, gaps-onward, gaps-all)

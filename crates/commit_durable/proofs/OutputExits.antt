@@ -138,12 +138,6 @@ last-start true k = refl
 last-start false k = refl
 
 module _ {s : List ℕ} {from n : ℕ} {planned : RangeSpan} {left : ℕ} {before : BoundSpan} {o : Outputs} (p : OutputsSeen s from n planned left before o) where
-  pub outputs-at : o .past ≤ length s
-  outputs-at = p .reading .within
-
-  pub start-in : BoundInside s before
-  start-in = p .before-in
-
   pub outputs-end : left ≤ 0 → OutputsPassed s (readMany (table .read) n (drop from s)) planned (At o)
   outputs-end h = record { is = record { tables = p .seen; is = all-read (p .reading) h; told = p .told } }
 
@@ -179,4 +173,4 @@ module _ {s : List ℕ} {from n : ℕ} {planned : RangeSpan} {left : ℕ} {befor
             before-in = rw hl (output-in .last);
           })
 
-pub ruleset outputs-exits = (outputs-begin, outputs-at, start-in, outputs-end, outputs-stop, output-in, outputs-onward)
+pub ruleset outputs-exits = (outputs-begin, outputs-end, outputs-stop, output-in, outputs-onward)

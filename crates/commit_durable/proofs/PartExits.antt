@@ -216,12 +216,6 @@ parts-begin s from n d h m l =
     }
 
 module _ {s : List ℕ} {from n : ℕ} {d t : List ℕ} {k : ℕ} {p : PartsSeen} (q : PartsKept s from n d t k p) where
-  pub end-inside-yet : BoundInside s (p .end)
-  end-inside-yet = q .end-in
-
-  pub parts-same : length t ≡ length d
-  parts-same = q .same
-
   pub parts-end : n ≤ k → PartsPassed s (readMany (part .read) n (drop from s)) n d t (At p)
   parts-end h =
       record {
@@ -274,4 +268,4 @@ module _ {s : List ℕ} {from n : ℕ} {d t : List ℕ} {k : ℕ} {p : PartsSeen
       pub parts-onward : {m : PartsSeen} → w ≡ At m → PartsKept s from n d u (k + 1) m
       parts-onward y = onward-by (rw y at (x .is))
 
-pub ruleset parts-exits = (parts-begin, end-inside-yet, parts-same, parts-end, part-room, more-same, parts-stop, parts-onward)
+pub ruleset parts-exits = (parts-begin, parts-end, part-room, more-same, parts-stop, parts-onward)

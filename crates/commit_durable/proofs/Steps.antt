@@ -1,7 +1,7 @@
 -- One more output or part in what is checked, and the tests of cuts by bounds.
 -- Assumes nothing.
 use mathlib.Core.Path.{_≡_, refl, ap, _∙_}
-use mathlib.Core.Bool.{Bool, true, false, not, _&&_, and-true, and-assoc}
+use mathlib.Core.Bool.{true, false, not, _&&_, Bool·not-not, and-true, and-assoc}
 use mathlib.Core.List.{List, [], _∷_, _++_}
 use Rattle.key.specs.Order.{atMost}
 use Rattle.comparable_range.specs.Range.{Bound, Range, nonEmpty, cmpBound}
@@ -21,15 +21,11 @@ pub ends-by-cuts : (a b : Bound) → atMost (cmpBound false a b) ≡ cutAtMost (
 unfolding cutAtMost
 ends-by-cuts a b = ap atMost (cmp-end a b)
 
-not-not : (t : Bool) → not (not t) ≡ t
-not-not true = refl
-not-not false = refl
-
 -- a start stands at or after an end exactly if the range from the one to the other fails
 pub after-by-cuts : (r : Range) → not (nonEmpty r) ≡ cutAtMost (endCut (r .end)) (startCut (r .start))
 after-by-cuts r =
     ap not (non-empty-by-cuts r ∙ cut-below-not (startCut (r .start)) (endCut (r .end)))
-    ∙ not-not (cutAtMost (endCut (r .end)) (startCut (r .start)))
+    ∙ Bool·not-not (cutAtMost (endCut (r .end)) (startCut (r .start)))
 
 -- ---- the cut that the last of some values makes for the next, or the one given
 unfoldable pub cutPast : {A : Type 0} → (A → Cut) → Cut → List A → Cut
