@@ -1,9 +1,9 @@
 -- What the answers of the one pass over a job say of its bytes s.
 use Prim.Native.Nat.{ℕ, _+_, _*_, _≤_}
 use mathlib.Core.Path.{_≡_}
-use mathlib.Core.Bool.{Bool, true, false, _&&_}
+use mathlib.Core.Bool.{Bool, true, not, _&&_}
 use mathlib.Core.Option.{Option, none, some}
-use mathlib.Core.List.{List}
+use mathlib.Core.List.{List, []}
 use lib.ListN.{length, drop}
 use lib.Dec.{eqb}
 use Rattle.base.specs.Pick.{pick}
@@ -12,11 +12,10 @@ use Rattle.base.specs.Outcome as outcome
 use Rattle.base.specs.Rows.{RowsHold}
 use Rattle.base.specs.Splice.{splice}
 use Rattle.key.specs.Order.{Key}
-use Rattle.comparable_range.specs.Range.{Bound, Range, nonEmpty}
+use Rattle.comparable_range.specs.Range.{Bound, Range, boundOf, nonEmpty}
 use Rattle.comparable_range.specs.Factors.{isKeyed}
 use Rattle.comparable_range.specs.Cut.{Cut, below, startCut, endCut}
 use Rattle.comparable_range.specs.declared.Kind.{Kind}
-use Rattle.comparable_range.specs.declared.Kind.the-variants.{Unbounded, Included, Excluded}
 use Rattle.format.specs.Got.{Got, got, stop}
 use Rattle.format.specs.Range.{boundIn, rangeIn, BoundInside}
 use Rattle.format.specs.Whole.{ended}
@@ -26,11 +25,11 @@ use Rattle.records.specs.Values.{Table, Part}
 use Rattle.records.specs.Layouts.{job}
 use Rattle.records.specs.Spans.{ifSo, keyIn, tableIn, idsIn}
 use Rattle.records.specs.declared.tables.TableSpan.{TableSpan}
-use Rattle.manifest.specs.Checks.{all, jobChecks}
+use Rattle.manifest.specs.Checks.{all, isExcluded, jobChecks}
 use Rattle.manifest.specs.Faults.{faultOf, least, tableChecks, tablesChecks, partsChecks, planned}
 use Rattle.incremental_progress.specs.Intervals.{Interval, toRange}
 use Rattle.incremental_progress.specs.Parts.{keyOf, lastWritten, upToKey}
-use Rattle.incremental_progress.specs.Checks.{plannedFrom, outputsFrom, outputsInside}
+use Rattle.incremental_progress.specs.Checks.{isIncluded, plannedFrom, outputsFrom, outputsInside}
 use Rattle.commit_rows.specs.Numbers.{partNumbers}
 use Rattle.commit_rows.specs.declared.parts.PartSpan.{PartSpan}
 use Rattle.commit_durable.specs.Faults.{plannedAfter, outputBetween, partsFault}
@@ -108,13 +107,7 @@ pub record RowMade (s : List ℕ) (r : RangeSpan) (completed : Bool) (outputs fi
 -- ---- one part
 -- the kinds of a planned range: it does not start excluded and does not end included
 abbrev pub halfOpen : Kind → Kind → Bool
-halfOpen Excluded ke = false
-halfOpen Unbounded Unbounded = true
-halfOpen Unbounded Included = false
-halfOpen Unbounded Excluded = true
-halfOpen Included Unbounded = true
-halfOpen Included Included = false
-halfOpen Included Excluded = true
+halfOpen ks ke = not (isExcluded (boundOf ks [])) && not (isIncluded (boundOf ke []))
 
 -- where the next part may begin: after the end of the one before, if there is one
 abbrev pub cutOf : Bool → Bound → Cut
