@@ -41,9 +41,6 @@ module _ (s : List ℕ) {r : JobRead} (f : JobFound s (jobHead .read s) r) {e c 
   opened = job-is s ∙ rw (← (f .meaning), q)
 
   module _ {d t : List ℕ} {w : PartsJudged} (x : PartsPassed s (readMany (part .read) n (drop first s)) n d t w) where
-    pub table-same : length t ≡ length d
-    table-same = x .same
-
     pub parts-stop : {k : ℕ} → w ≡ PartsStop k → JobPassed s d t (Stop k)
     parts-stop {k} y =
         let z : readMany (part .read) n (drop first s) ≡ stop k = rw y at (x .is) in
@@ -82,4 +79,4 @@ module _ (s : List ℕ) {r : JobRead} (f : JobFound s (jobHead .read s) r) {e c 
             same = x .same;
           }
 
-pub ruleset job-exits = (no-job, parts-from, parts-most, table-same, parts-stop, left-over, job-done)
+pub ruleset job-exits = (no-job, parts-from, parts-most, parts-stop, left-over, job-done)

@@ -73,25 +73,21 @@ module _ (s : List ℕ) (i j : BoundSpan) (t : TableSpan) where
     begins =
         sym (h ∙ ap atMost g ∙ starts-by-cuts (boundIn s i) (boundIn s f) ∙ ap (λ m. cutAtMost (startCut (boundIn s i)) (startCut (boundIn s m))) d)
 
-    pub too-early : a ≡ false → false ≡ outputBetween (endCut (boundIn s j)) (startCut (boundIn s i)) (tableIn s t)
+    pub between :
+        {l : BoundSpan} {u : Order} {b c r : Bool}
+        → l ≡ lastSpan t
+        → u ≡ cmpBound false (boundIn s l) (boundIn s j)
+        → b ≡ atMost u
+        → c ≡ (b && t .flagged)
+        → r ≡ (a && c)
+        → r ≡ outputBetween (endCut (boundIn s j)) (startCut (boundIn s i)) (tableIn s t)
     unfolding outputBetween
-    too-early z = rw (begins, z)
+    between {l} q w k e z =
+        z
+        ∙ rw (begins, e, k, w, ends-by-cuts (boundIn s l) (boundIn s j), q)
+        (ap (λ x. a && x) (sym (ends-by (t .flagged) (take (t .«last_len») (drop (t .«last_at») s)) (endCut (boundIn s j)))))
 
-    module _ (z : a ≡ true) {l : BoundSpan} {u : Order} {b : Bool} (q : l ≡ lastSpan t) (w : u ≡ cmpBound false (boundIn s l) (boundIn s j)) (k : b ≡ atMost u) where
-      ends : endsBy (endCut (boundIn s j)) (tableIn s t .last) ≡ (b && t .flagged)
-      ends =
-          ends-by (t .flagged) (take (t .«last_len») (drop (t .«last_at») s)) (endCut (boundIn s j))
-          ∙ sym (ap (λ x. x && t .flagged) (k ∙ ap atMost w ∙ ends-by-cuts (boundIn s l) (boundIn s j) ∙ ap (λ m. cutAtMost (endCut (boundIn s m)) (endCut (boundIn s j))) q))
-
-      pub too-late : b ≡ false → false ≡ outputBetween (endCut (boundIn s j)) (startCut (boundIn s i)) (tableIn s t)
-      unfolding outputBetween
-      too-late y = rw (begins, z, ends, y)
-
-      pub between : b ≡ true → t .flagged ≡ outputBetween (endCut (boundIn s j)) (startCut (boundIn s i)) (tableIn s t)
-      unfolding outputBetween
-      between y = rw (begins, z, ends, y)
-
-pub ruleset between-exits = (first-in, last-in, too-early, too-late, between)
+pub ruleset between-exits = (first-in, last-in, between)
 
 -- ---- output_more
 pub more-is :
@@ -142,12 +138,6 @@ last-start true k = refl
 last-start false k = refl
 
 module _ {s : List ℕ} {from n : ℕ} {planned : RangeSpan} {left : ℕ} {before : BoundSpan} {o : Outputs} (p : OutputsSeen s from n planned left before o) where
-  pub outputs-at : o .past ≤ length s
-  outputs-at = p .reading .within
-
-  pub start-in : BoundInside s before
-  start-in = p .before-in
-
   pub outputs-end : left ≤ 0 → OutputsPassed s (readMany (table .read) n (drop from s)) planned (At o)
   outputs-end h = record { is = record { tables = p .seen; is = all-read (p .reading) h; told = p .told } }
 
@@ -183,4 +173,4 @@ module _ {s : List ℕ} {from n : ℕ} {planned : RangeSpan} {left : ℕ} {befor
             before-in = rw hl (output-in .last);
           })
 
-pub ruleset outputs-exits = (outputs-begin, outputs-at, start-in, outputs-end, outputs-stop, output-in, outputs-onward)
+pub ruleset outputs-exits = (outputs-begin, outputs-end, outputs-stop, output-in, outputs-onward)

@@ -5,8 +5,7 @@ use Prim.Native.Nat.{ℕ, _+_, _*_, _-_, _≤_, _<_}
 use native.Mathlib.Omega.{arith}
 use native.Mathlib.Nat.{add-zero}
 use mathlib.Core.Path.{_≡_, refl, sym, ap, _∙_}
-use mathlib.Core.Bool.{Bool, true, false, not, _&&_}
-use mathlib.Core.Option.{Option}
+use mathlib.Core.Bool.{Bool, true, false, not, _&&_, and-true, and-assoc}
 use mathlib.Core.List.{List, [], _∷_, _++_}
 use lib.ListN.{length, take, drop, length-append}
 use lib.Dec.{eqb}
@@ -15,7 +14,7 @@ use Rattle.base.specs.Rows.{RowsHold, hold-none, hold-more}
 use Rattle.base.specs.Splice.{splice, spliced-length}
 use Rattle.key.specs.Order.{Key}
 use Rattle.comparable_range.specs.Range.{Range, boundOf, nonEmpty}
-use Rattle.comparable_range.specs.Cut.{Cut, below, cutAtMost, startCut, endCut}
+use Rattle.comparable_range.specs.Cut.{below, cutAtMost, startCut, endCut}
 use Rattle.comparable_range.specs.declared.Kind.{Kind}
 use Rattle.comparable_range.specs.declared.Kind.the-variants.{Unbounded, Included, Excluded}
 use Rattle.comparable_range.proofs.Cut.{below-≼}
@@ -35,21 +34,18 @@ use Rattle.manifest.specs.Checks.{all, isExcluded}
 use Rattle.manifest.specs.Faults.{faultOf, least, planned}
 use Rattle.manifest.proofs.Steps.{all-more, parts-none, parts-more}
 use Rattle.incremental_progress.specs.Checks.{isIncluded, plannedFrom, outputsInside}
-use Rattle.incremental_progress.specs.Parts.{lastWritten, durable, openKey}
+use Rattle.incremental_progress.specs.Parts.{durable, openKey}
 use Rattle.commit_rows.specs.Numbers.{partNumbers}
 use Rattle.commit_rows.specs.declared.parts.PartSpan.{PartSpan}
 use Rattle.commit_rows.proofs.RowExits.{part-back}
 use Rattle.commit_durable.specs.Faults.{plannedAfter}
-use Rattle.commit_durable.specs.Tables.{PartHeld, PartIs}
-use Rattle.commit_durable.specs.Answers.{lastIn, LastInside, OutputsPassed, DurableFound, halfOpen, cutOf, spanOf, PartMade, PartTold, PartPassed, partMore, PartsTold, PartsPassed}
+use Rattle.commit_durable.specs.Tables.{PartIs}
+use Rattle.commit_durable.specs.Answers.{lastIn, LastInside, OutputsPassed, RowMade, halfOpen, cutOf, partMore, partFault, PartGot, PartPassed, PartsTold, PartsPassed}
 use Rattle.commit_durable.specs.declared.outputs.Outputs.{Outputs}
 use Rattle.commit_durable.specs.declared.outputs.OutputsRead.{OutputsRead}
 use Rattle.commit_durable.specs.declared.outputs.OutputsRead.the-variants.{At as OutputsAt, Stop as OutputsStop}
-use Rattle.commit_durable.specs.declared.durable.Durable.{Durable}
-use Rattle.commit_durable.specs.declared.parts.PartSeen.{PartSeen}
-use Rattle.commit_durable.specs.declared.parts.PartJudged.{PartJudged}
-use Rattle.commit_durable.specs.declared.parts.PartJudged.the-variants.{At as PartAt, Stop as PartStop}
 use Rattle.commit_durable.specs.declared.parts.PartsSeen.{PartsSeen}
+use Rattle.commit_durable.specs.declared.parts.PartsJudged.{PartsJudged}
 use Rattle.commit_durable.specs.declared.parts.PartsJudged.the-variants.{At, Stop}
 use Rattle.commit_durable.proofs.Counts.{outputs-within}
 use Rattle.commit_durable.proofs.Steps.{after-by-cuts, cutPast, past-more, partCut, planned-more}
@@ -79,25 +75,27 @@ half-open Included Excluded x y = refl
 module _ (s : List ℕ) (first : Bool) (b i j : BoundSpan) {h : Bool} (e : h ≡ halfOpen (i .kind) (j .kind)) where
   opened : plannedAfter (cutOf first (boundIn s b)) (rangeIn s i j) ≡ (h && cutAtMost (cutOf first (boundIn s b)) (startCut (boundIn s i)))
   unfolding plannedAfter
-  opened =
-      rw (e, half-open (i .kind) (j .kind) (take (i .len) (drop (i .at) s)) (take (j .len) (drop (j .at) s)))
-      (go (not (isExcluded (boundIn s i))) (not (isIncluded (boundIn s j))) (cutAtMost (cutOf first (boundIn s b)) (startCut (boundIn s i))))
-    where
-      go : (a b c : Bool) → (a && b && c) ≡ ((a && b) && c)
-      go true b c = refl
-      go false b c = refl
+  opened = rw (e, half-open (i .kind) (j .kind) (take (i .len) (drop (i .at) s)) (take (j .len) (drop (j .at) s))) (simp and-assoc)
 
-  pub wrong-kinds : h ≡ false → false ≡ plannedAfter (cutOf first (boundIn s b)) (rangeIn s i j)
-  wrong-kinds z = sym (opened ∙ rw z)
+  pub first-part : first ≡ true → h ≡ plannedAfter (cutOf first (boundIn s b)) (rangeIn s i j)
+  first-part f = sym (opened ∙ rw (f, below-≼ (startCut (boundIn s i)) .holds) (and-true h))
 
-  module _ (z : h ≡ true) where
-    pub first-part : first ≡ true → true ≡ plannedAfter (cutOf first (boundIn s b)) (rangeIn s i j)
-    first-part f = sym (opened ∙ rw (z, f) (below-≼ (startCut (boundIn s i)) .holds))
+  pub next-part : {t r : Bool} → first ≡ false → t ≡ nonEmpty (rangeIn s i b) → r ≡ (h && not t) → r ≡ plannedAfter (cutOf first (boundIn s b)) (rangeIn s i j)
+  next-part f w z = z ∙ ap (λ x. h && x) (ap not w ∙ after-by-cuts (rangeIn s i b)) ∙ sym (opened ∙ rw f)
 
-    pub next-part : {t : Bool} → first ≡ false → t ≡ nonEmpty (rangeIn s i b) → not t ≡ plannedAfter (cutOf first (boundIn s b)) (rangeIn s i j)
-    next-part f w = ap not w ∙ after-by-cuts (rangeIn s i b) ∙ sym (opened ∙ rw (z, f))
+pub ruleset after-exits = (first-part, next-part)
 
-pub ruleset after-exits = (wrong-kinds, first-part, next-part)
+-- ---- part_more
+pub more-is :
+    (s : List ℕ) (first : Bool) (p : PartsSeen) (r : RangeSpan) (o : Outputs) {f g h : ℕ} {z a b : Bool}
+    → z ≡ plannedAfter (cutOf first (boundIn s (p .end))) (rangeIn s (r .start) (r .end))
+    → f ≡ faultOf (planned (nonEmpty (rangeIn s (r .start) (r .end))))
+    → g ≡ least f (o .fault)
+    → h ≡ least (p .fault) g
+    → a ≡ (p .planned && z)
+    → b ≡ (p .inside && o .inside)
+    → record { past = o .past; fault = h; planned = a; inside = b; end = r .end } ≡ partMore s first p r o
+more-is s first p r o hz hf hg hh ha hb = rw (hh, hg, hf, ha, hz, hb)
 
 -- ---- part_read
 abbrev rangeOf : BoundSpan → BoundSpan → RangeSpan
@@ -106,32 +104,12 @@ rangeOf i j = record { start = i; end = j }
 abbrev partWith : Range → Bool → ℕ → List Table → Part
 partWith r c m ts = partOf (r, ((c, m), ts))
 
-row-held :
-    (s : List ℕ) (i j : BoundSpan) (c : Bool) (m next past : ℕ) (ts : List Table) {l : Option Key} {d : Durable}
-    → l ≡ lastWritten ts
-    → DurableFound s (rangeOf i j) c l d
-    → next ≤ length s
-    → m ≤ 1024
-    → readMany (table .read) m (drop next s) ≡ got ts (drop past s)
-    → PartHeld s (partWith (rangeIn s i j) c m ts) (spanOf d c m next)
-unfolding durable openKey
-row-held s i j c m next past ts e x h k g =
-    let y = rw e at x in
-    record {
-      durable-is = y .is;
-      range = y .range;
-      open-is = y .open-is;
-      start = y .start;
-      end = y .end;
-      first = h;
-      few = k;
-      past = drop past s;
-      outputs-are = g;
-    }
+module _ (s : List ℕ) (k : ℕ) (p : PartsSeen) (t : List ℕ) {r : PartRead} (f : PartFound s (partHead .read (drop (p .past) s)) r) where
+  abbrev Passed : List ℕ → PartsJudged → Type 0
+  Passed = PartPassed s (part .read (drop (p .past) s)) k p t
 
-module _ (s : List ℕ) (at : ℕ) {r : PartRead} (f : PartFound s (partHead .read (drop at s)) r) where
-  pub head-stop : {k : ℕ} (d : Cut) → r ≡ HeadStop k → PartPassed s (part .read (drop at s)) d (PartStop k)
-  head-stop d q = record { is = part-is (drop at s) ∙ rw (← (f .meaning), q) }
+  pub head-stop : {c : ℕ} → r ≡ HeadStop c → Passed t (Stop c)
+  head-stop q = record { is = part-is (drop (p .past) s) ∙ rw (← (f .meaning), q); same = refl }
 
   module _ {i j : BoundSpan} {c : Bool} {m next : ℕ} (q : r ≡ HeadAt i j c m next) where
     pub start-inside : BoundInside s i
@@ -144,68 +122,63 @@ module _ (s : List ℕ) (at : ℕ) {r : PartRead} (f : PartFound s (partHead .re
     outputs-from = (rw q at (f .inside)) .1 .1
 
     few-outputs : m ≤ 1024
-    few-outputs = outputs-within (drop at s) (drop next s) (rangeIn s i j, (c, m)) (sym (f .meaning) ∙ rw q)
+    few-outputs = outputs-within (drop (p .past) s) (drop next s) (rangeIn s i j, (c, m)) (sym (f .meaning) ∙ rw q)
 
-    part-opened : part .read (drop at s) ≡ andThen (readMany (table .read) m (drop next s)) (λ ts q. got (partWith (rangeIn s i j) c m ts) q)
-    part-opened = part-is (drop at s) ∙ rw (← (f .meaning), q)
+    part-opened : part .read (drop (p .past) s) ≡ andThen (readMany (table .read) m (drop next s)) (λ ts q. got (partWith (rangeIn s i j) c m ts) q)
+    part-opened = part-is (drop (p .past) s) ∙ rw (← (f .meaning), q)
 
     module _ {w : OutputsRead} (x : OutputsPassed s (readMany (table .read) m (drop next s)) (rangeOf i j) w) where
-      pub outputs-stop : {k : ℕ} (d : Cut) → w ≡ OutputsStop k → PartPassed s (part .read (drop at s)) d (PartStop k)
-      outputs-stop {k} d y =
+      pub outputs-stop : {k : ℕ} → w ≡ OutputsStop k → Passed t (Stop k)
+      outputs-stop {k} y =
           let e : readMany (table .read) m (drop next s) ≡ stop k = rw y at (x .is) in
-          record { is = part-opened ∙ rw e }
+          record { is = part-opened ∙ rw e; same = refl }
 
       module _ {o : Outputs} (y : w ≡ OutputsAt o) where
         pub last-inside : LastInside s o
         last-inside = (rw y at (x .is)) .told .last-in
 
         pub part-done :
-            (d : Cut) {e : PartSeen} {z : Bool}
-            → z ≡ plannedAfter d (rangeIn s i j)
-            → PartMade s (rangeOf i j) c m next o z e
-            → PartPassed s (part .read (drop at s)) d (PartAt e)
-        unfolding outputsInside
-        part-done d {e} {z} hz u =
-            let v = rw y at (x .is) in
-            record {
+            {h : PartSpan} {u : List ℕ} {e : PartsSeen}
+            → k * 10 + 10 ≤ length t
+            → RowMade s (rangeOf i j) c m next (lastIn s o) h
+            → u ≡ splice t (k * 10) (partNumbers h)
+            → e ≡ partMore s (eqb k 0) p (rangeOf i j) o
+            → Passed u (At e)
+        unfolding outputsInside durable openKey
+        part-done {h} room hh hu he =
+            let w = rw y at (x .is) in
+            let v = rw (w .told .last) at hh in
+            rw he
+            (record {
               is =
                   record {
-                    part = partWith (rangeIn s i j) c m (v .tables);
-                    is = part-opened ∙ ap (λ g. andThen g (λ ts q. got (partWith (rangeIn s i j) c m ts) q)) (v .is) ∙ rw (u .past);
-                    told =
+                    part = partWith (rangeIn s i j) c m (w .tables);
+                    is = part-opened ∙ ap (λ g. andThen g (λ ts q. got (partWith (rangeIn s i j) c m ts) q)) (w .is);
+                    place = w .told .place;
+                    fault = rw (w .told .fault);
+                    planned = refl;
+                    inside = rw (w .told .inside);
+                    end = refl;
+                    end-in = end-inside;
+                    row = h;
+                    held =
                         record {
-                          place = rw (u .past) (v .told .place);
-                          held = rw (u .span) (row-held s i j c m next (o .past) (v .tables) (v .told .last) (u .found) outputs-from few-outputs (v .is));
-                          fault = u .fault ∙ rw (v .told .fault);
-                          after = u .after ∙ hz;
-                          inside = u .inside ∙ v .told .inside;
-                          end = rw (u .end);
-                          end-in = rw (u .end) end-inside;
+                          durable-is = v .is;
+                          range = v .range;
+                          open-is = v .open-is;
+                          start = v .start;
+                          end = v .end;
+                          first = rw (v .first-is) outputs-from;
+                          few = rw (v .outputs-is) few-outputs;
+                          past = drop (o .past) s;
+                          outputs-are = rw (v .outputs-is, v .first-is) (w .is);
                         };
+                    put = hu;
                   };
-            }
+              same = spliced-length t (k * 10) (partNumbers h) hu room;
+            })
 
-pub ruleset part-exits = (head-stop, start-inside, end-inside, outputs-from, outputs-stop, last-inside, part-done)
-
--- ---- part_seen
-pub made-is :
-    (s : List ℕ) (p : RangeSpan) (c : Bool) (m next : ℕ) (o : Outputs) (z : Bool) {d : Durable} {h : PartSpan} {a g : ℕ}
-    → DurableFound s p c (lastIn s o) d
-    → h ≡ spanOf d c m next
-    → a ≡ faultOf (planned (nonEmpty (rangeIn s (p .start) (p .end))))
-    → g ≡ least a (o .fault)
-    → PartMade s p c m next o z (record { span = h; past = o .past; fault = g; after = z; inside = o .inside; end = p .end })
-made-is s p c m next o z {d} hd hh ha hg =
-    record { durable = d; found = hd; span = hh; past = refl; fault = hg ∙ rw ha; after = refl; inside = refl; end = refl }
-
--- ---- part_more
-pub more-is :
-    (p : PartsSeen) (r : PartSeen) {f : ℕ} {a b : Bool}
-    → f ≡ least (p .fault) (r .fault)
-    → a ≡ (p .planned && r .after)
-    → b ≡ (p .inside && r .inside)
-    → record { past = r .past; fault = f; planned = a; inside = b; end = r .end } ≡ partMore p r
-more-is p r hf ha hb = rw (hf, ha, hb)
+pub ruleset part-exits = (head-stop, start-inside, end-inside, outputs-from, outputs-stop, last-inside, part-done, spliced-length)
 
 -- ---- parts_read
 pub record PartsKept (s : List ℕ) (from n : ℕ) (d t : List ℕ) (k : ℕ) (p : PartsSeen) : Type 0 where
@@ -242,22 +215,7 @@ parts-begin s from n d h m l =
       end-in = rw add-zero h;
     }
 
-told-more : {s : List ℕ} {c : Cut} {seen : List Part} {p : PartsSeen} {v : Part} {r : PartSeen} → PartsTold s seen p → c ≡ cutPast partCut below seen → PartTold s c v r → PartsTold s (seen ++ (v ∷ [])) (partMore p r)
-told-more {s} {c} {seen} {p} {v} {r} x e y =
-    record {
-      place = y .place;
-      fault = rw (x .fault, y .fault) (sym (parts-more seen v));
-      planned = rw (x .planned, y .after, e) (sym (planned-more seen v));
-      inside = rw (x .inside, y .inside) (sym (all-more outputsInside seen v));
-    }
-
 module _ {s : List ℕ} {from n : ℕ} {d t : List ℕ} {k : ℕ} {p : PartsSeen} (q : PartsKept s from n d t k p) where
-  pub end-inside-yet : BoundInside s (p .end)
-  end-inside-yet = q .end-in
-
-  pub parts-same : length t ≡ length d
-  parts-same = q .same
-
   pub parts-end : n ≤ k → PartsPassed s (readMany (part .read) n (drop from s)) n d t (At p)
   parts-end h =
       record {
@@ -269,43 +227,45 @@ module _ {s : List ℕ} {from n : ℕ} {d t : List ℕ} {k : ℕ} {p : PartsSeen
     pub part-room : k * 10 + 10 ≤ length t
     part-room = omega (arith, q .most, q .room, q .same)
 
-    pub row-same : (x : PartSpan) {u : List ℕ} → u ≡ splice t (k * 10) (partNumbers x) → length u ≡ length d
-    row-same x e = spliced-length t (k * 10) (partNumbers x) e part-room ∙ q .same
-
     left : 0 < n - k
     left = omega arith
 
-    module _ {w : PartJudged} (x : PartPassed s (part .read (drop (p .past) s)) (cutOf (eqb k 0) (boundIn s (p .end))) w) where
-      pub parts-stop : {m : ℕ} → w ≡ PartStop m → PartsPassed s (readMany (part .read) n (drop from s)) n d t (Stop m)
-      parts-stop {m} y = record { is = stopped (q .reading) {k = m} left (rw y at (x .is)); same = q .same }
+    module _ {u : List ℕ} {w : PartsJudged} (x : PartPassed s (part .read (drop (p .past) s)) k p t u w) where
+      pub more-same : length u ≡ length d
+      more-same = x .same ∙ q .same
 
-      pub parts-onward :
-          {r : PartSeen} {u : List ℕ} {m : PartsSeen}
-          → w ≡ PartAt r
-          → u ≡ splice t (k * 10) (partNumbers (r .span))
-          → m ≡ partMore p r
-          → PartsKept s from n d u (k + 1) m
-      parts-onward {r} {u} {m} y e hm =
-          let v = rw y at (x .is) in
+      pub parts-stop : {c : ℕ} → w ≡ Stop c → PartsPassed s (readMany (part .read) n (drop from s)) n d u (Stop c)
+      parts-stop {c} y = record { is = stopped (q .reading) {k = c} left (rw y at (x .is)); same = more-same }
+
+      onward-by : {m : PartsSeen} → PartGot s (part .read (drop (p .past) s)) k p t u m → PartsKept s from n d u (k + 1) m
+      onward-by v =
           let a = v .part in
           let z : n - k - 1 ≡ n - (k + 1) = omega arith in
-          let i : PartIs s a (partNumbers (r .span)) = rw (part-back (r .span)) (v .told .held) in
+          let i : PartIs s a (partNumbers (v .row)) = rw (part-back (v .row)) (v .held) in
           let l : length (q .seen) * 10 + 10 ≤ length t = omega (arith, q .count, part-room) in
-          let o : RowsHold 10 (PartIs s) (q .seen ++ (a ∷ [])) (splice t (length (q .seen) * 10) (partNumbers (r .span)))
-          = hold-more 10 (PartIs s) a (partNumbers (r .span)) (q .rows) refl l i in
-          rw hm
-          (record {
+          let o : RowsHold 10 (PartIs s) (q .seen ++ (a ∷ [])) (splice t (length (q .seen) * 10) (partNumbers (v .row)))
+          = hold-more 10 (PartIs s) a (partNumbers (v .row)) (q .rows) refl l i in
+          record {
             seen = q .seen ++ (a ∷ []);
-            reading = rw z at (onward (q .reading) left (v .is) (v .told .place));
+            reading = rw z at (onward (q .reading) left (v .is) (v .place));
             upto = omega arith;
             count = rw length-append (omega (arith, q .count));
             most = q .most;
             room = q .room;
-            same = row-same (r .span) e;
-            told = told-more (q .told) (q .cut) (v .told);
-            rows = rw e (rw (q .count) at o);
-            cut = rw (ne-eqb (k + 1) 0 (omega arith)) (ap endCut (v .told .end) ∙ sym (past-more partCut below (q .seen) a));
-            end-in = v .told .end-in;
-          })
+            same = more-same;
+            told =
+                record {
+                  place = v .place;
+                  fault = v .fault ∙ ap (λ f. least f (partFault a)) (q .told .fault) ∙ sym (parts-more (q .seen) a);
+                  planned = v .planned ∙ rw (q .cut) (ap (λ b. b && plannedAfter (cutPast partCut below (q .seen)) (a .planned)) (q .told .planned)) ∙ sym (planned-more below (q .seen) a);
+                  inside = v .inside ∙ ap (λ b. b && outputsInside a) (q .told .inside) ∙ sym (all-more outputsInside (q .seen) a);
+                };
+            rows = rw (v .put) (rw (q .count) at o);
+            cut = rw (ne-eqb (k + 1) 0 (omega arith)) (ap endCut (v .end) ∙ sym (past-more partCut below (q .seen) a));
+            end-in = v .end-in;
+          }
 
-pub ruleset parts-exits = (parts-begin, end-inside-yet, parts-same, parts-end, part-room, row-same, parts-stop, parts-onward)
+      pub parts-onward : {m : PartsSeen} → w ≡ At m → PartsKept s from n d u (k + 1) m
+      parts-onward y = onward-by (rw y at (x .is))
+
+pub ruleset parts-exits = (parts-begin, parts-end, part-room, more-same, parts-stop, parts-onward)

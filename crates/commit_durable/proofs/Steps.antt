@@ -1,11 +1,11 @@
 -- One more output or part in what is checked, and the tests of cuts by bounds.
 -- Assumes nothing.
 use mathlib.Core.Path.{_≡_, refl, ap, _∙_}
-use mathlib.Core.Bool.{Bool, true, false, not, _&&_, and-true, and-assoc}
+use mathlib.Core.Bool.{true, false, not, _&&_, Bool·not-not, and-true, and-assoc}
 use mathlib.Core.List.{List, [], _∷_, _++_}
 use Rattle.key.specs.Order.{atMost}
 use Rattle.comparable_range.specs.Range.{Bound, Range, nonEmpty, cmpBound}
-use Rattle.comparable_range.specs.Cut.{Cut, below, cutAtMost, startCut, endCut}
+use Rattle.comparable_range.specs.Cut.{Cut, cutAtMost, startCut, endCut}
 use Rattle.comparable_range.proofs.Cut.{cut-below-not}
 use Rattle.comparable_range.proofs.ByCuts.{cmp-start, cmp-end, non-empty-by-cuts}
 use Rattle.records.specs.Values.{Table, Part}
@@ -21,15 +21,11 @@ pub ends-by-cuts : (a b : Bound) → atMost (cmpBound false a b) ≡ cutAtMost (
 unfolding cutAtMost
 ends-by-cuts a b = ap atMost (cmp-end a b)
 
-not-not : (t : Bool) → not (not t) ≡ t
-not-not true = refl
-not-not false = refl
-
 -- a start stands at or after an end exactly if the range from the one to the other fails
 pub after-by-cuts : (r : Range) → not (nonEmpty r) ≡ cutAtMost (endCut (r .end)) (startCut (r .start))
 after-by-cuts r =
     ap not (non-empty-by-cuts r ∙ cut-below-not (startCut (r .start)) (endCut (r .end)))
-    ∙ not-not (cutAtMost (endCut (r .end)) (startCut (r .start)))
+    ∙ Bool·not-not (cutAtMost (endCut (r .end)) (startCut (r .start)))
 
 -- ---- the cut that the last of some values makes for the next, or the one given
 unfoldable pub cutPast : {A : Type 0} → (A → Cut) → Cut → List A → Cut
@@ -56,19 +52,9 @@ outputs-more e c (u ∷ seen) t = rw (outputs-more e (outputCut u) seen t) (simp
 abbrev pub partCut : Part → Cut
 partCut p = endCut (p .planned .end)
 
-planned-one : (c : Cut) (p : Part) (ps : List Part) → plannedFrom c (p ∷ ps) ≡ (plannedAfter c (p .planned) && plannedFrom (partCut p) ps)
-unfolding plannedFrom plannedAfter
-planned-one c p ps = simp and-assoc
-
-planned-append : (c : Cut) (seen ps : List Part) → plannedFrom c (seen ++ ps) ≡ (plannedFrom c seen && plannedFrom (cutPast partCut c seen) ps)
-unfolding plannedFrom cutPast
-planned-append c [] ps = refl
-planned-append c (q ∷ seen) ps = rw (planned-append (partCut q) seen ps) (simp and-assoc)
-
-planned-none : (c : Cut) → plannedFrom c [] ≡ true
-unfolding plannedFrom
-planned-none c = refl
-
-pub planned-more : (seen : List Part) (p : Part) → plannedFrom below (seen ++ (p ∷ [])) ≡ (plannedFrom below seen && plannedAfter (cutPast partCut below seen) (p .planned))
-planned-more seen p =
-    planned-append below seen (p ∷ []) ∙ rw (planned-one (cutPast partCut below seen) p [], planned-none (partCut p), and-true)
+pub planned-more :
+    (c : Cut) (seen : List Part) (p : Part)
+    → plannedFrom c (seen ++ (p ∷ [])) ≡ (plannedFrom c seen && plannedAfter (cutPast partCut c seen) (p .planned))
+unfolding plannedFrom plannedAfter cutPast
+planned-more c [] p = rw and-true
+planned-more c (q ∷ seen) p = rw (planned-more (partCut q) seen p) (simp and-assoc)

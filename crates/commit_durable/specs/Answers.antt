@@ -1,19 +1,21 @@
 -- What the answers of the one pass over a job say of its bytes s.
 use Prim.Native.Nat.{ℕ, _+_, _*_, _≤_}
 use mathlib.Core.Path.{_≡_}
-use mathlib.Core.Bool.{Bool, true, false, _&&_}
+use mathlib.Core.Bool.{Bool, true, not, _&&_}
 use mathlib.Core.Option.{Option, none, some}
-use mathlib.Core.List.{List}
+use mathlib.Core.List.{List, []}
 use lib.ListN.{length, drop}
+use lib.Dec.{eqb}
 use Rattle.base.specs.Pick.{pick}
 use Rattle.base.specs.Outcome.{answer}
 use Rattle.base.specs.Outcome as outcome
 use Rattle.base.specs.Rows.{RowsHold}
+use Rattle.base.specs.Splice.{splice}
 use Rattle.key.specs.Order.{Key}
-use Rattle.comparable_range.specs.Range.{Bound, Range, nonEmpty}
+use Rattle.comparable_range.specs.Range.{Bound, Range, boundOf, nonEmpty}
+use Rattle.comparable_range.specs.Factors.{isKeyed}
 use Rattle.comparable_range.specs.Cut.{Cut, below, startCut, endCut}
 use Rattle.comparable_range.specs.declared.Kind.{Kind}
-use Rattle.comparable_range.specs.declared.Kind.the-variants.{Unbounded, Included, Excluded}
 use Rattle.format.specs.Got.{Got, got, stop}
 use Rattle.format.specs.Range.{boundIn, rangeIn, BoundInside}
 use Rattle.format.specs.Whole.{ended}
@@ -23,21 +25,18 @@ use Rattle.records.specs.Values.{Table, Part}
 use Rattle.records.specs.Layouts.{job}
 use Rattle.records.specs.Spans.{ifSo, keyIn, tableIn, idsIn}
 use Rattle.records.specs.declared.tables.TableSpan.{TableSpan}
-use Rattle.manifest.specs.Checks.{all, jobChecks}
+use Rattle.manifest.specs.Checks.{all, isExcluded, jobChecks}
 use Rattle.manifest.specs.Faults.{faultOf, least, tableChecks, tablesChecks, partsChecks, planned}
 use Rattle.incremental_progress.specs.Intervals.{Interval, toRange}
 use Rattle.incremental_progress.specs.Parts.{keyOf, lastWritten, upToKey}
-use Rattle.incremental_progress.specs.Checks.{plannedFrom, outputsFrom, outputsInside}
+use Rattle.incremental_progress.specs.Checks.{isIncluded, plannedFrom, outputsFrom, outputsInside}
+use Rattle.commit_rows.specs.Numbers.{partNumbers}
 use Rattle.commit_rows.specs.declared.parts.PartSpan.{PartSpan}
 use Rattle.commit_durable.specs.Faults.{plannedAfter, outputBetween, partsFault}
-use Rattle.commit_durable.specs.Tables.{jobOf, intervalIn, PartHeld, PartIs, PartsHold, GapsHold}
+use Rattle.commit_durable.specs.Tables.{jobOf, intervalIn, durableIn, openIn, PartHeld, PartIs, PartsHold, GapsHold}
 use Rattle.commit_durable.specs.declared.outputs.Outputs.{Outputs}
 use Rattle.commit_durable.specs.declared.outputs.OutputsRead.{OutputsRead}
 use Rattle.commit_durable.specs.declared.outputs.OutputsRead.the-variants.{At as OutputsAt, Stop as OutputsStop}
-use Rattle.commit_durable.specs.declared.durable.Durable.{Durable}
-use Rattle.commit_durable.specs.declared.parts.PartSeen.{PartSeen}
-use Rattle.commit_durable.specs.declared.parts.PartJudged.{PartJudged}
-use Rattle.commit_durable.specs.declared.parts.PartJudged.the-variants.{At as PartAt, Stop as PartStop}
 use Rattle.commit_durable.specs.declared.parts.PartsSeen.{PartsSeen}
 use Rattle.commit_durable.specs.declared.parts.PartsJudged.{PartsJudged}
 use Rattle.commit_durable.specs.declared.parts.PartsJudged.the-variants.{At as PartsAt, Stop as PartsStop}
@@ -87,95 +86,72 @@ pub record OutputsPassed (s : List ℕ) (g : Got (List Table)) (r : RangeSpan) (
   pub is : OutputsAnswer s g r w
 
 -- ---- durable intervals
-abbrev pub startKind : Kind → Kind
-startKind Unbounded = Unbounded
-startKind Included = Included
-startKind Excluded = Included
-
-abbrev pub endKind : Kind → Kind
-endKind Unbounded = Unbounded
-endKind Included = Excluded
-endKind Excluded = Excluded
-
-abbrev pub startSpan : BoundSpan → BoundSpan
-startSpan b = record { kind = startKind (b .kind); at = b .at; len = b .len }
-
-abbrev pub endSpan : BoundSpan → BoundSpan
-endSpan b = record { kind = endKind (b .kind); at = b .at; len = b .len }
+-- a bound with a key gets this kind; an unbounded one stays
+abbrev pub withKind : Kind → BoundSpan → BoundSpan
+withKind k b = record { kind = pick (isKeyed (b .kind)) k (b .kind); at = b .at; len = b .len }
 
 -- what is durable of a planned range: `durable` of a part, by its fields
 abbrev pub durableFrom : Range → Bool → Option Key → Option Interval
 durableFrom r completed last = pick completed (some (record { start = keyOf (r .start); end = keyOf (r .end) })) (upToKey (keyOf (r .start)) last)
 
-pub record DurableFound (s : List ℕ) (r : RangeSpan) (completed : Bool) (last : Option Key) (d : Durable) : Type 0 where
-  pub is : ifSo (d .there) (intervalIn s (d .start) (d .end)) ≡ durableFrom (rangeIn s (r .start) (r .end)) completed last
-  pub range : d .there ≡ true → rangeIn s (d .start) (d .end) ≡ toRange (intervalIn s (d .start) (d .end))
-  pub open-is : d .there ≡ true → pick completed none (some (keyIn s (d .end .at) (d .end .len))) ≡ pick completed none last
-  pub start : BoundInside s (d .start)
-  pub end : BoundInside s (d .end)
+-- h is the row of a part with a planned range, its outputs and the last written key
+pub record RowMade (s : List ℕ) (r : RangeSpan) (completed : Bool) (outputs first : ℕ) (last : Option Key) (h : PartSpan) : Type 0 where
+  pub is : durableIn s h ≡ durableFrom (rangeIn s (r .start) (r .end)) completed last
+  pub range : h .durable ≡ true → rangeIn s (h .start) (h .end) ≡ toRange (intervalIn s (h .start) (h .end))
+  pub open-is : h .durable ≡ true → openIn s h ≡ pick completed none last
+  pub start : BoundInside s (h .start)
+  pub end : BoundInside s (h .end)
+  pub outputs-is : h .outputs ≡ outputs
+  pub first-is : h .first ≡ first
 
 -- ---- one part
 -- the kinds of a planned range: it does not start excluded and does not end included
 abbrev pub halfOpen : Kind → Kind → Bool
-halfOpen Excluded ke = false
-halfOpen Unbounded Unbounded = true
-halfOpen Unbounded Included = false
-halfOpen Unbounded Excluded = true
-halfOpen Included Unbounded = true
-halfOpen Included Included = false
-halfOpen Included Excluded = true
+halfOpen ks ke = not (isExcluded (boundOf ks [])) && not (isIncluded (boundOf ke []))
 
 -- where the next part may begin: after the end of the one before, if there is one
 abbrev pub cutOf : Bool → Bound → Cut
 cutOf first b = pick first below (endCut b)
 
--- a row, by its fields
-abbrev pub spanOf : Durable → Bool → ℕ → ℕ → PartSpan
-spanOf d completed outputs first =
-    record { durable = d .there; completed = completed; outputs = outputs; first = first; start = d .start; end = d .end }
-
--- what is made of a part's head and its outputs
-pub record PartMade (s : List ℕ) (p : RangeSpan) (completed : Bool) (outputs first : ℕ) (o : Outputs) (passes : Bool) (r : PartSeen) : Type 0 where
-  pub durable : Durable
-  pub found : DurableFound s p completed (lastIn s o) durable
-  pub span : r .span ≡ spanOf durable completed outputs first
-  pub past : r .past ≡ o .past
-  pub fault : r .fault ≡ least (faultOf (planned (nonEmpty (rangeIn s (p .start) (p .end))))) (o .fault)
-  pub after : r .after ≡ passes
-  pub inside : r .inside ≡ o .inside
-  pub end : r .end ≡ p .end
+-- what p tells, and one part more with a planned range r and outputs o
+abbrev pub partMore : List ℕ → Bool → PartsSeen → RangeSpan → Outputs → PartsSeen
+partMore s first p r o =
+    record {
+      past = o .past;
+      fault = least (p .fault) (least (faultOf (planned (nonEmpty (rangeIn s (r .start) (r .end))))) (o .fault));
+      planned = p .planned && plannedAfter (cutOf first (boundIn s (p .end))) (rangeIn s (r .start) (r .end));
+      inside = p .inside && o .inside;
+      end = r .end;
+    }
 
 -- the first of the checks 4, 5 and 7 that a part fails, or 8
 abbrev pub partFault : Part → ℕ
 partFault p = least (faultOf (planned (nonEmpty (p .planned)))) (faultOf (tablesChecks (p .outputs)))
 
--- r tells of a part after a cut
-pub record PartTold (s : List ℕ) (c : Cut) (p : Part) (r : PartSeen) : Type 0 where
-  pub place : r .past ≤ length s
-  pub held : PartHeld s p (r .span)
-  pub fault : r .fault ≡ partFault p
-  pub after : r .after ≡ plannedAfter c (p .planned)
-  pub inside : r .inside ≡ outputsInside p
-  pub end : boundIn s (r .end) ≡ p .planned .end
-  pub end-in : BoundInside s (r .end)
-
-pub record PartGot (s : List ℕ) (g : Got Part) (c : Cut) (r : PartSeen) : Type 0 where
+-- m tells of a part that a reader finds and of those before it, of which p tells; its row k was put into a table d
+pub record PartGot (s : List ℕ) (g : Got Part) (k : ℕ) (p : PartsSeen) (d t : List ℕ) (m : PartsSeen) : Type 0 where
   pub part : Part
-  pub is : g ≡ got part (drop (r .past) s)
-  pub told : PartTold s c part r
+  pub is : g ≡ got part (drop (m .past) s)
+  pub place : m .past ≤ length s
+  pub fault : m .fault ≡ least (p .fault) (partFault part)
+  pub planned : m .planned ≡ (p .planned && plannedAfter (cutOf (eqb k 0) (boundIn s (p .end))) (part .planned))
+  pub inside : m .inside ≡ (p .inside && outputsInside part)
+  pub end : boundIn s (m .end) ≡ part .planned .end
+  pub end-in : BoundInside s (m .end)
+  pub row : PartSpan
+  pub held : PartHeld s part row
+  pub put : t ≡ splice d (k * 10) (partNumbers row)
 
-abbrev pub PartAnswer : List ℕ → Got Part → Cut → PartJudged → Type 0
-PartAnswer s g c (PartAt r) = PartGot s g c r
-PartAnswer s g c (PartStop k) = g ≡ stop k
+abbrev pub PartAnswer : List ℕ → Got Part → ℕ → PartsSeen → List ℕ → List ℕ → PartsJudged → Type 0
+PartAnswer s g k p d t (PartsAt m) = PartGot s g k p d t m
+PartAnswer s g k p d t (PartsStop c) = g ≡ stop c
 
-pub record PartPassed (s : List ℕ) (g : Got Part) (c : Cut) (r : PartJudged) : Type 0 where
-  pub is : PartAnswer s g c r
+-- the table was d
+pub record PartPassed (s : List ℕ) (g : Got Part) (k : ℕ) (p : PartsSeen) (d t : List ℕ) (r : PartsJudged) : Type 0 where
+  pub is : PartAnswer s g k p d t r
+  pub same : length t ≡ length d
 
 -- ---- all parts
-abbrev pub partMore : PartsSeen → PartSeen → PartsSeen
-partMore p r =
-    record { past = r .past; fault = least (p .fault) (r .fault); planned = p .planned && r .after; inside = p .inside && r .inside; end = r .end }
-
 -- p tells of some parts
 pub record PartsTold (s : List ℕ) (ps : List Part) (p : PartsSeen) : Type 0 where
   pub place : p .past ≤ length s

@@ -1,7 +1,10 @@
 // The gaps between a job's durable intervals, in a table. Some functions are lent the job only so that their contracts can
 // say what its bytes mean.
+use crate::durable::with_kind;
+use crate::outputs::both;
 use crate::tables::part_at;
 use comparable_range::Kind;
+use comparable_range::keyed;
 use format::BoundSpan;
 use format::span::RangeSpan;
 ghost use Prim.Native.Nat.{_<_, _≤_};
@@ -41,25 +44,13 @@ fn gap_to(job: &[u8], from: GapStart, start: BoundSpan) -> RangeSpan
     requires { ⌜ StartInside (now job) from ⌝ ∗ ⌜ BoundInside (now job) start ⌝ }
     ensures { λ r. ⌜ GapHeld (now (job .entry)) (gapTo (startIn (now (job .entry)) from) (keyOf (boundIn (now (job .entry)) start))) r ⌝ }
 {
-    if from.there {
-        let kind = start.kind;
+    let kind = start.kind;
+    if both(from.there, keyed(kind)) {
         let bound = from.bound;
-        let end = BoundSpan {
-            kind: Kind::Excluded,
-            at: start.at,
-            len: start.len,
+        return RangeSpan {
+            start: bound,
+            end: with_kind(start, Kind::Excluded),
         };
-        match kind {
-            Kind::Unbounded => {
-                return void_gap(job);
-            }
-            Kind::Included => {
-                return RangeSpan { start: bound, end };
-            }
-            Kind::Excluded => {
-                return RangeSpan { start: bound, end };
-            }
-        }
     }
     void_gap(job)
 }
@@ -89,18 +80,9 @@ fn gap_from(job: &[u8], end: BoundSpan) -> GapStart
     ensures { λ r. ⌜ StartFound (now (job .entry)) (gapFrom (keyOf (boundIn (now (job .entry)) end))) r ⌝ }
 {
     let kind = end.kind;
-    let bound = BoundSpan {
-        kind: Kind::Included,
-        at: end.at,
-        len: end.len,
-    };
-    match kind {
-        Kind::Unbounded => GapStart {
-            there: false,
-            bound,
-        },
-        Kind::Included => GapStart { there: true, bound },
-        Kind::Excluded => GapStart { there: true, bound },
+    GapStart {
+        there: keyed(kind),
+        bound: with_kind(end, Kind::Included),
     }
 }
 
@@ -121,14 +103,12 @@ pub fn gaps_of(job: &[u8], parts: &[usize], n: usize, gaps: &mut [usize]) -> usi
     };
     while k < n {
         let p = part_at(job, parts, n, k);
+        k += 1;
         if p.durable {
             let gap = gap_to(job, from, p.start);
             commit_rows::put_gap(gaps, made, gap.start, gap.end);
             from = gap_from(job, p.end);
             made += 1;
-            k += 1;
-        } else {
-            k += 1;
         }
     }
     let gap = last_gap(job, from);

@@ -50,12 +50,9 @@ fn output_between(job: &[u8], start: BoundSpan, end: BoundSpan, t: TableSpan) ->
     requires { ⌜ BoundInside (now job) start ⌝ ∗ ⌜ BoundInside (now job) end ⌝ ∗ ⌜ TableInside (now job) t ⌝ }
     ensures { λ r. ⌜ r ≡ outputBetween (endCut (boundIn (now (job .entry)) end)) (startCut (boundIn (now (job .entry)) start)) (tableIn (now (job .entry)) t) ⌝ }
 {
-    if key::at_most(span::compare(job, start, job, own_start(t), true)) {
-        if key::at_most(span::compare(job, own_end(t), job, end, false)) {
-            return t.flagged;
-        }
-    }
-    false
+    let begins = key::at_most(span::compare(job, start, job, own_start(t), true));
+    let ends = key::at_most(span::compare(job, own_end(t), job, end, false));
+    both(begins, both(ends, t.flagged))
 }
 
 // Of the outputs read so far: the place past them, the first of the checks 5 and 7 that they fail or 8, whether they pass

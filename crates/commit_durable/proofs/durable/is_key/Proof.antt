@@ -1,67 +1,39 @@
 -- `commit_durable::durable::is_key` meets its contract.
 -- Assumes nothing.
-use Rattle.commit_durable.proofs.DurableExits.{key-exits}
+use Rattle.commit_durable.proofs.DurableExits.{key-is}
 use borrow.Author.Needs.{needs}
 use Rattle.commit_durable.proofs.durable.is_key.Statement.{statement}
 use Rattle.commit_durable.proofs.durable.is_key.Tie as tie
 
-enum-told : tie.Need-enum-told
-enum-told c = search (needs, key-exits)
-
-enum-told-2 : tie.Need-enum-told-2
-enum-told-2 c = search (needs, key-exits)
-
 key-of-requires : tie.Need-key-of-requires
-key-of-requires c κs = search (needs, key-exits)
+key-of-requires c κs = search (needs, key-is)
 
 key-of-requires-2 : tie.Need-key-of-requires-2
-key-of-requires-2 c κs = search (needs, key-exits)
+key-of-requires-2 c κs = search (needs, key-is)
 
 cmp-requires : tie.Need-cmp-requires
-cmp-requires c κs = search (needs, key-exits)
+cmp-requires c κs = search (needs, key-is)
 
 is-equal-requires : tie.Need-is-equal-requires
-is-equal-requires c κs = search (needs, key-exits)
+is-equal-requires c κs = search (needs, key-is)
 
-enum-told-3 : tie.Need-enum-told-3
-enum-told-3 c = search (needs, key-exits)
+keyed-requires : tie.Need-keyed-requires
+keyed-requires c κs = search (needs, key-is)
 
-key-of-requires-3 : tie.Need-key-of-requires-3
-key-of-requires-3 c κs = search (needs, key-exits)
-
-key-of-requires-4 : tie.Need-key-of-requires-4
-key-of-requires-4 c κs = search (needs, key-exits)
-
-cmp-requires-2 : tie.Need-cmp-requires-2
-cmp-requires-2 c κs = search (needs, key-exits)
-
-is-equal-requires-2 : tie.Need-is-equal-requires-2
-is-equal-requires-2 c κs = search (needs, key-exits)
+both-requires : tie.Need-both-requires
+both-requires c κs = search (needs, key-is)
 
 returns : tie.Need-returns
-returns c = search (needs, key-exits)
-
-returns-2 : tie.Need-returns-2
-returns-2 c = search (needs, key-exits)
-
-returns-3 : tie.Need-returns-3
-returns-3 c = search (needs, key-exits)
+returns c = search (needs, key-is)
 
 pub is-key-spec : {M : Type 1} → statement M
 is-key-spec =
     tie.close
     (tie.spec
-    enum-told
-    enum-told-2
     key-of-requires
     key-of-requires-2
     cmp-requires
     is-equal-requires
-    enum-told-3
-    key-of-requires-3
-    key-of-requires-4
-    cmp-requires-2
-    is-equal-requires-2
-    returns
-    returns-2
-    returns-3)
+    keyed-requires
+    both-requires
+    returns)

@@ -1,7 +1,7 @@
 -- `commit_durable::gaps::gaps_of` meets its contract.
 -- Assumes nothing.
-use Rattle.commit_durable.proofs.GapExits.{gaps-exits, GapsKept}
 use Prim.Native.Nat.{_-_}
+use Rattle.commit_durable.proofs.GapExits.{gaps-exits, GapsKept}
 use borrow.Author.Needs.{needs}
 use Rattle.commit_durable.proofs.gaps.gaps_of.Statement.{statement}
 use Rattle.commit_durable.proofs.gaps.gaps_of.Tie as tie
@@ -18,6 +18,9 @@ loop-holds c = search (needs, gaps-exits)
 part-at-requires : tie.Need-part-at-requires Inv-loop μ-loop
 part-at-requires c κs = search (needs, gaps-exits)
 
+add-k : tie.Need-add-k Inv-loop μ-loop
+add-k c = search (needs, gaps-exits)
+
 gap-to-requires : tie.Need-gap-to-requires Inv-loop μ-loop
 gap-to-requires c κs = search (needs, gaps-exits)
 
@@ -30,23 +33,17 @@ gap-from-requires c κs = search (needs, gaps-exits)
 add-made : tie.Need-add-made Inv-loop μ-loop
 add-made c = search (needs, gaps-exits)
 
-add-k : tie.Need-add-k Inv-loop μ-loop
-add-k c = search (needs, gaps-exits)
-
 loop-less : tie.Need-loop-less Inv-loop μ-loop
 loop-less c = search (needs, gaps-exits)
 
 loop-again : tie.Need-loop-again Inv-loop μ-loop
-loop-again c = search (needs, gaps-exits, c .before .before .before .before .before .before .before .part-at .ensures)
-
-add-k-2 : tie.Need-add-k-2 Inv-loop μ-loop
-add-k-2 c = search (needs, gaps-exits)
+loop-again c = search (needs, gaps-exits)
 
 loop-less-2 : tie.Need-loop-less-2 Inv-loop μ-loop
 loop-less-2 c = search (needs, gaps-exits)
 
 loop-again-2 : tie.Need-loop-again-2 Inv-loop μ-loop
-loop-again-2 c = search (needs, gaps-exits, c .before .part-at .ensures)
+loop-again-2 c = search (needs, gaps-exits)
 
 last-gap-requires : tie.Need-last-gap-requires Inv-loop μ-loop
 last-gap-requires c κs = search (needs, gaps-exits)
@@ -71,14 +68,13 @@ gaps-of-spec =
     μ-loop
     loop-holds
     part-at-requires
+    add-k
     gap-to-requires
     put-gap-requires
     gap-from-requires
     add-made
-    add-k
     loop-less
     loop-again
-    add-k-2
     loop-less-2
     loop-again-2
     last-gap-requires

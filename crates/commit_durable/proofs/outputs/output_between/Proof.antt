@@ -23,14 +23,14 @@ compare-requires-2 c κs = search (needs, between-exits)
 at-most-requires-2 : tie.Need-at-most-requires-2
 at-most-requires-2 c κs = search (needs, between-exits)
 
+both-requires : tie.Need-both-requires
+both-requires c κs = search (needs, between-exits)
+
+both-requires-2 : tie.Need-both-requires-2
+both-requires-2 c κs = search (needs, between-exits)
+
 returns : tie.Need-returns
 returns c = search (needs, between-exits)
-
-returns-2 : tie.Need-returns-2
-returns-2 c = search (needs, between-exits)
-
-returns-3 : tie.Need-returns-3
-returns-3 c = search (needs, between-exits)
 
 pub output-between-spec : {M : Type 1} → statement M
 output-between-spec =
@@ -42,6 +42,6 @@ output-between-spec =
     own-end-requires
     compare-requires-2
     at-most-requires-2
-    returns
-    returns-2
-    returns-3)
+    both-requires
+    both-requires-2
+    returns)

@@ -14,9 +14,6 @@ enum-known-k c = search (needs, part-exits)
 enum-known-start : tie.Need-enum-known-start
 enum-known-start c = search (needs, part-exits)
 
-planned-after-requires : tie.Need-planned-after-requires
-planned-after-requires c κs = search (needs, part-exits)
-
 outputs-read-requires : tie.Need-outputs-read-requires
 outputs-read-requires c κs = search (needs, part-exits)
 
@@ -26,8 +23,14 @@ enum-known-k-2 c = search (needs, part-exits)
 enum-known-o : tie.Need-enum-known-o
 enum-known-o c = search (needs, part-exits)
 
-part-seen-requires : tie.Need-part-seen-requires
-part-seen-requires c κs = search (needs, part-exits)
+part-more-requires : tie.Need-part-more-requires
+part-more-requires c κs = search (needs, part-exits)
+
+row-of-requires : tie.Need-row-of-requires
+row-of-requires c κs = search (needs, part-exits)
+
+put-part-requires : tie.Need-put-part-requires
+put-part-requires c κs = search (needs, part-exits, c .before .before .before .before .before .before .before .before .before .before .before .before .before .pre)
 
 returns : tie.Need-returns
 returns c = search (needs, part-exits)
@@ -35,8 +38,11 @@ returns c = search (needs, part-exits)
 returns-2 : tie.Need-returns-2
 returns-2 c = search (needs, part-exits)
 
+same-length : tie.Need-same-length
+same-length c = search (needs, part-exits)
+
 returns-3 : tie.Need-returns-3
-returns-3 c = search (needs, part-exits)
+returns-3 c = search (needs, part-exits, c .before .before .before .before .before .before .before .before .before .before .before .before .before .before .before .before .pre)
 
 pub part-read-spec : {M : Type 1} → statement M
 part-read-spec =
@@ -45,11 +51,13 @@ part-read-spec =
     part-at-requires
     enum-known-k
     enum-known-start
-    planned-after-requires
     outputs-read-requires
     enum-known-k-2
     enum-known-o
-    part-seen-requires
+    part-more-requires
+    row-of-requires
+    put-part-requires
     returns
     returns-2
+    same-length
     returns-3)

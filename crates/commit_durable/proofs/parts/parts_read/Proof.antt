@@ -1,7 +1,7 @@
 -- `commit_durable::parts::parts_read` meets its contract.
 -- Assumes nothing.
-use Rattle.commit_durable.proofs.PartExits.{parts-exits, PartsKept}
 use Prim.Native.Nat.{_-_}
+use Rattle.commit_durable.proofs.PartExits.{parts-exits, PartsKept}
 use borrow.Author.Needs.{needs}
 use Rattle.commit_durable.proofs.parts.parts_read.Statement.{statement}
 use Rattle.commit_durable.proofs.parts.parts_read.Tie as tie
@@ -27,14 +27,8 @@ same-length c = search (needs, parts-exits)
 returns : tie.Need-returns Inv-loop μ-loop
 returns c = search (needs, parts-exits)
 
-enum-known-r : tie.Need-enum-known-r Inv-loop μ-loop
-enum-known-r c = search (needs, parts-exits)
-
-put-part-requires : tie.Need-put-part-requires Inv-loop μ-loop
-put-part-requires c κs = search (needs, parts-exits)
-
-part-more-requires : tie.Need-part-more-requires Inv-loop μ-loop
-part-more-requires c κs = search (needs, parts-exits)
+enum-known-m : tie.Need-enum-known-m Inv-loop μ-loop
+enum-known-m c = search (needs, parts-exits)
 
 add-seen : tie.Need-add-seen Inv-loop μ-loop
 add-seen c = search (needs, parts-exits)
@@ -62,9 +56,7 @@ parts-read-spec =
     enum-known-k
     same-length
     returns
-    enum-known-r
-    put-part-requires
-    part-more-requires
+    enum-known-m
     add-seen
     loop-less
     loop-again

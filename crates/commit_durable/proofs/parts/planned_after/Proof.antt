@@ -14,12 +14,12 @@ returns c = search (needs, after-exits)
 passes-requires : tie.Need-passes-requires
 passes-requires c κs = search (needs, after-exits)
 
+both-requires : tie.Need-both-requires
+both-requires c κs = search (needs, after-exits)
+
 returns-2 : tie.Need-returns-2
 returns-2 c = search (needs, after-exits)
 
-returns-3 : tie.Need-returns-3
-returns-3 c = search (needs, after-exits)
-
 pub planned-after-spec : {M : Type 1} → statement M
 planned-after-spec =
-    tie.close (tie.spec half-open-requires returns passes-requires returns-2 returns-3)
+    tie.close (tie.spec half-open-requires returns passes-requires both-requires returns-2)
