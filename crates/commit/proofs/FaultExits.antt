@@ -18,9 +18,6 @@ use Rattle.commit.specs.Stages.{progressFault, HeadTold}
 
 -- ---- job_fault
 module _ {record′ : List ℕ} {h : JobHead} (t : HeadTold record′ h) where
-  pub told-within : h .from + 4 * h .sources ≤ length record′
-  told-within = t .sources-within
-
   module _ (given : List ℕ) {a : Bool} (e : a ≡ has (h .destination) (idsIn (h .sources) (drop (h .from) record′))) where
     is-source : destinationIsSource (jobOf record′) ≡ a
     unfolding destinationIsSource
@@ -43,4 +40,4 @@ module _ {record′ : List ℕ} {h : JobHead} (t : HeadTold record′ h) where
       unfolding progressFault partsFault plannedInOrder outputsInOrder
       later-fault r = rw (is-source, q, are-there, r) (t .late)
 
-pub ruleset fault-exits = (told-within, not-a-source, not-there, later-fault)
+pub ruleset fault-exits = (not-a-source, not-there, later-fault)

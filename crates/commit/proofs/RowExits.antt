@@ -116,9 +116,6 @@ column-small c [] a = omega arith
 column-small c (row ∷ rows) a = omega (arith, a .0, column-small c rows (a .1))
 
 module _ {s t : List ℕ} {n : ℕ} (h : IndexHold s n t) where
-  pub index-few : n ≤ 64
-  index-few = h .most
-
   pub index-long : n * 4 ≤ length t
   index-long = rw (h .count) (h .rows .long)
 
@@ -135,9 +132,6 @@ module _ {s t : List ℕ} {n : ℕ} (h : IndexHold s n t) where
   views-few = omega (arith, column-small 1 (rowsIn 4 n t) views-small, length-rows 4 n t, h .most)
 
   module _ {j p : List ℕ} {m : ℕ} (k : PartsHold j m p) where
-    pub parts-few : m ≤ 64
-    parts-few = k .most
-
     pub parts-long : m * 10 ≤ length p
     parts-long = rw (k .count) (k .rows .long)
 
@@ -171,4 +165,4 @@ module _ {s t : List ℕ} {n : ℕ} (h : IndexHold s n t) where
         unfolding rowsAtMost
         rows-are = rw (e, f, views-are, outputs-are, ← (k .count))
 
-pub ruleset most-exits = (index-few, index-long, views-small, parts-few, parts-long, outputs-small, views-fit, rows-fit, rows-are)
+pub ruleset most-exits = (index-long, views-small, parts-long, outputs-small, views-fit, rows-fit, rows-are)

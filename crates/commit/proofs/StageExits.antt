@@ -31,9 +31,6 @@ use Rattle.commit.proofs.MostRows.{rows-at-most, outputs-at-most}
 
 -- ---- plan_image
 module _ {given record′ : List ℕ} (r : Read given record′) where
-  pub stage-passed : ImagePassed given
-  stage-passed = r .passed
-
   pub stage-ready : {ids runs rows : List ℕ} {a : ImagePlan} {before : List ℕ} → RowsEnough given record′ before → CommitPlanned given record′ ids rows runs a → length rows ≡ length before → Ready given record′ ids runs rows a
   stage-ready h p e =
       record {
@@ -44,16 +41,8 @@ module _ {given record′ : List ℕ} (r : Read given record′) where
         room = λ l. rw (p .planned .count, e) (h .enough (rw (← (p .bytes)) l));
       }
 
-pub ruleset plan-exits = (stage-passed, stage-ready)
-
 -- ---- cover_image
 module _ {given record′ index parts : List ℕ} {h : StageHead} (s : StageHeld given record′ index parts h) where
-  pub stage-parts : PartsHold record′ (h .parts) parts
-  stage-parts = s .parts-are
-
-  pub stage-index : IndexHold given (h .runs) index
-  stage-index = s .runs-are
-
   pub stage-head : (m : ℕ) (p : Plan) → HeadHeld record′ (record { destination = h .destination; sources = h .sources; from = h .from; gaps = m; runs = h .runs; outputs = p })
   stage-head m p = record { destination = s .destination; sources = s .sources; sources-within = s .sources-within }
 
@@ -97,7 +86,7 @@ module _ (given record′ ids out : List ℕ) {b : Bool} (e : b ≡ coveredBy (j
   pub uncovered-kept : b ≡ false → out ≡ lent out (coveredOutcome given record′ ids (length out))
   uncovered-kept h = sym (ap (lent out) (no h))
 
-pub ruleset cover-exits = (stage-parts, stage-index, stage-head, stage-cover, stage-gaps, stage-outputs, stage-long, covered-report, covered-written, uncovered, uncovered-kept)
+pub ruleset cover-exits = (stage-head, stage-cover, stage-gaps, stage-outputs, stage-long, covered-report, covered-written, uncovered, uncovered-kept)
 
 -- ---- apply_few and apply_many
 -- two numbers for each output, eleven for each row
@@ -115,13 +104,5 @@ many-enough r l = record { enough = λ s. omega (arith, s, rows-least (r .passed
 
 -- ---- apply_stages
 module _ {given record′ index parts : List ℕ} {h : StageHead} (s : StageHeld given record′ index parts h) where
-  pub held-runs : IndexHold given (h .runs) index
-  held-runs = s .runs-are
-
-  pub held-parts : PartsHold record′ (h .parts) parts
-  held-parts = s .parts-are
-
   pub few-rows : {n : ℕ} → n ≡ rowsAtMost (imageOf given) (jobOf record′) → n ≤ 64 → rowsAtMost (imageOf given) (jobOf record′) ≤ 64
   few-rows e h = rw (← e) h
-
-pub ruleset sized-exits = (held-runs, held-parts, few-rows)

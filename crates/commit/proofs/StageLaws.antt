@@ -53,15 +53,6 @@ module _ {given record′ index parts : List ℕ} {n : ℕ} {h : JobHead} (p : G
   abbrev j : Job
   j = jobOf record′
 
-  pub apply-runs : IndexHold given n index
-  apply-runs = p .runs-are
-
-  pub apply-told : HeadTold record′ h
-  apply-told = p .told
-
-  pub apply-small : length record′ ≤ 65536
-  apply-small = p .small-job
-
   module _ {f : ℕ} (e : f ≡ progressFault i j) where
     module _ (ids out : List ℕ) (k : f < 12) where
       refused : appliedOutcome i j ids (length out) ≡ stop f
@@ -123,4 +114,4 @@ module _ {given record′ index parts : List ℕ} {n : ℕ} {h : JobHead} (p : G
         pub apply-written : {o : List ℕ} → o ≡ lent out (coveredOutcome given record′ ids (length out)) → o ≡ lent out (appliedOutcome i j ids (length out))
         apply-written q = q ∙ sym (ap (lent out) stages-are)
 
-pub ruleset apply-exits = (apply-runs, apply-told, apply-small, apply-stops, apply-kept, apply-read, apply-held, apply-report, apply-written)
+pub ruleset apply-exits = (apply-stops, apply-kept, apply-read, apply-held, apply-report, apply-written)

@@ -1,18 +1,18 @@
 -- `commit::stages::plan_image` meets its contract.
 -- Assumes nothing.
-use Rattle.commit.proofs.StageExits.{plan-exits, stage-ready}
+use Rattle.commit.proofs.StageExits.{stage-ready}
 use borrow.Author.Needs.{needs}
 use Rattle.commit.proofs.stages.plan_image.Statement.{statement}
 use Rattle.commit.proofs.stages.plan_image.Tie as tie
 
 slice-aggregate-plan-runs : tie.Need-slice-aggregate-plan-runs
-slice-aggregate-plan-runs c = search (needs, plan-exits)
+slice-aggregate-plan-runs c = search needs
 
 plan-runs-requires : tie.Need-plan-runs-requires
-plan-runs-requires c κs = (search (needs, plan-exits), (search (needs, plan-exits), (search (needs, plan-exits), (search (needs, plan-exits), (search (needs, plan-exits), search (needs, plan-exits))))))
+plan-runs-requires c κs = (search needs, (search needs, (search needs, (search needs, (search needs, search needs)))))
 
 slice-aggregate-finish : tie.Need-slice-aggregate-finish
-slice-aggregate-finish c = search (needs, plan-exits)
+slice-aggregate-finish c = search needs
 
 finish-requires : tie.Need-finish-requires
 finish-requires c κs =
@@ -20,13 +20,13 @@ finish-requires c κs =
     stage-ready (search needs) (c .before .before .before .before .before .before .before .before .before .before .before .before .before .before .before .before .pre .1 .1 .1 .1 .1) (x .0) (x .1)
 
 same-length : tie.Need-same-length
-same-length c = search (needs, plan-exits)
+same-length c = search needs
 
 same-length-2 : tie.Need-same-length-2
-same-length-2 c = search (needs, plan-exits)
+same-length-2 c = search needs
 
 returns : tie.Need-returns
-returns c = search (needs, plan-exits)
+returns c = search needs
 
 pub plan-image-spec : {M : Type 1} → statement M
 plan-image-spec =
