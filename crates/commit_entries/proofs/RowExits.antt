@@ -38,15 +38,6 @@ pub ruleset bound-exits = (included-long, excluded-long)
 
 -- ---- row_len
 module _ (r : Row) (s : RowSmall r) where
-  pub long-there : r .at ≤ r .past
-  long-there = s .order
-
-  pub start-small : r .start .len ≤ 262144
-  start-small = s .start
-
-  pub end-small : r .end .len ≤ 262144
-  end-small = s .end
-
   pub whole-long : r .form ≡ Whole → r .past - r .at ≡ rowLength r
   unfolding rowLength
   whole-long e = rw e
@@ -84,7 +75,7 @@ module _ (r : Row) (s : RowSmall r) where
   pub cut-fits : {n : ℕ} → n ≤ 524293 → Fits w64 (1 + (r .past - r .at) + n)
   cut-fits h = omega (arith, s .past)
 
-pub ruleset len-exits = (long-there, start-small, end-small, whole-long, output-long, cut-output-long, cut-long, whole-most, output-most, cut-output-most, cut-most, output-fits, cut-output-fits, cut-fits)
+pub ruleset len-exits = (whole-long, output-long, cut-output-long, cut-long, whole-most, output-most, cut-output-most, cut-most, output-fits, cut-output-fits, cut-fits)
 
 -- ---- keep_row
 module _ (d : List ℕ) (k : ℕ) (r : Row) where
@@ -147,9 +138,6 @@ drew-bytes (none-left a b) = refl
 drew-bytes (none-before a) = refl
 
 module _ {ids : List ℕ} {p : Plan} (y : PlanReady ids 1099511627776 p) where
-  pub cut-within : p .drawn ≤ length ids
-  cut-within = y .within
-
   pub cut-few : p .cuts ≤ 1099511627776
   cut-few = omega (arith, y .few, y .few-cuts)
 
@@ -170,4 +158,4 @@ pub added-cut :
     → AddedCut old ids r p d q t
 added-cut {x} f a = record { ten = x; found = f; added = a }
 
-pub ruleset cut-exits = (cut-within, cut-few, cut-rows, cut-short, with-ten-small, added-cut)
+pub ruleset cut-exits = (cut-few, cut-rows, cut-short, with-ten-small, added-cut)

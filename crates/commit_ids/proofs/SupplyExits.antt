@@ -63,9 +63,6 @@ pub drawing-begin : (old ids : List ℕ) (from : ℕ) → length old ≡ 16 → 
 drawing-begin old ids from h k = record { full = h; within = k; rest = refl }
 
 module _ {old ids : List ℕ} {from at : ℕ} (p : Drawing old ids from at) where
-  pub drawing-at : at ≤ length ids
-  drawing-at = p .within
-
   pub drawing-old : 16 ≤ length old
   drawing-old = omega (arith, p .full)
 
@@ -96,7 +93,7 @@ module _ {old ids : List ℕ} {from at : ℕ} (p : Drawing old ids from at) wher
       pub drawing-found : t ≡ true → DrawFound ids (draw (record { 0 = old }) (supply (drop from ids))) (At at)
       drawing-found e = record { meaning = sym (here ∙ rw (off (isOld (idOf old) (take 10 (drop at ids))) (old-is ∙ e))); inside = omega arith }
 
-pub ruleset drawing-exits = (drawing-begin, drawing-at, drawing-old, drawing-used, drawing-again, drawing-found)
+pub ruleset drawing-exits = (drawing-begin, drawing-old, drawing-used, drawing-again, drawing-found)
 
 -- ---- differ
 module _ (a b : List ℕ) {o : Order} (ho : o ≡ cmpKey a b) {t : Bool} (ht : t ≡ isEqual o) where

@@ -187,12 +187,6 @@ runs-begin s from n d h m =
     }
 
 module _ {s : List ℕ} {from n : ℕ} {d t : List ℕ} {k at fault : ℕ} (p : RunsSeen s from n d t k at fault) where
-  pub runs-at : at ≤ length s
-  runs-at = p .reading .within
-
-  pub runs-same : length t ≡ length d
-  runs-same = p .same
-
   pub ids-room : k * 4 ≤ length t
   ids-room = omega (arith, p .upto, p .room, p .same)
 
@@ -244,4 +238,4 @@ module _ {s : List ℕ} {from n : ℕ} {d t : List ℕ} {k at fault : ℕ} (p : 
             rows = rw hu (rw (p .count) at o);
           }
 
-pub ruleset runs-exits = (runs-begin, runs-at, runs-same, ids-room, runs-end, row-room, row-same, runs-stop, runs-onward)
+pub ruleset runs-exits = (runs-begin, ids-room, runs-end, row-room, row-same, runs-stop, runs-onward)

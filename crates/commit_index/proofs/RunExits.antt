@@ -47,9 +47,6 @@ module _ (s : List ℕ) {r : CountRead} (f : CountFound s (upTo 1 64 .read (drop
   opened = image-is s ∙ rw (← (f .meaning), q)
 
   module _ {d t : List ℕ} {w : Judged} (x : RunsIndexed s (readMany (run .read) n (drop first s)) d t w) where
-    pub index-same : length t ≡ length d
-    index-same = x .same
-
     pub runs-stop : {k : ℕ} → w ≡ Stop k → ImageIndexed s d t (IndexedStop k)
     runs-stop {k} y =
         let z : readMany (run .read) n (drop first s) ≡ stop k = judge-stop imageChecks (readMany (run .read) n (drop first s)) k (sym (ap (judged s) y) ∙ x .found .meaning) in
@@ -79,7 +76,7 @@ module _ (s : List ℕ) {r : CountRead} (f : CountFound s (upTo 1 64 .read (drop
             same = x .same;
           }
 
-pub ruleset image-indexed-exits = (no-image, runs-from, runs-room, index-same, runs-stop, left-over, image-done)
+pub ruleset image-indexed-exits = (no-image, runs-from, runs-room, runs-stop, left-over, image-done)
 
 -- ---- indexed_run
 abbrev nothing : Run
