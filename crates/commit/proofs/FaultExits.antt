@@ -1,12 +1,10 @@
 -- The exits of `job_fault`.
 -- Assumes nothing.
-use Prim.Native.Nat.{ℕ, _+_, _*_, _≤_}
-use native.Mathlib.Omega.{arith}
-use mathlib.Core.Path.{_≡_, refl, sym, ap, _∙_}
+use Prim.Native.Nat.{ℕ}
+use mathlib.Core.Path.{_≡_}
 use mathlib.Core.Bool.{Bool, true, false}
-use mathlib.Core.List.{List, map}
-use lib.ListN.{length, drop, replicate}
-use Rattle.base.specs.Pick.{pick}
+use mathlib.Core.List.{List}
+use lib.ListN.{drop}
 use Rattle.records.specs.Spans.{idsIn}
 use Rattle.manifest.specs.Checks.{all, has}
 use Rattle.incremental_progress.specs.Checks.{destinationIsSource, sourcesThere, plannedInOrder, outputsInOrder}

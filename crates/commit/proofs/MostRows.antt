@@ -2,21 +2,21 @@
 -- Assumes nothing.
 use Prim.Native.Nat.{ℕ, _+_, _*_, _≤_}
 use native.Mathlib.Omega.{arith}
-use mathlib.Core.Path.{_≡_, refl, sym, ap, _∙_}
+use mathlib.Core.Path.{_≡_, refl}
 use mathlib.Core.Bool.{Bool, true, false, _||_}
 use mathlib.Core.Option.{Option, none, some}
-use mathlib.Core.List.{List, [], _∷_, _++_, map, flatMap}
+use mathlib.Core.List.{List, [], _∷_, flatMap}
 use lib.Dec.{eqb}
 use lib.ListN.{length, length-append, length-map}
 use Rattle.base.specs.Pick.{pick}
 use Rattle.key.specs.Order.{Key}
-use Rattle.comparable_range.specs.Range.{Bound, unbounded, Range, nonEmpty, overlap, intersect}
+use Rattle.comparable_range.specs.Range.{Bound, unbounded, nonEmpty, overlap, intersect}
 use Rattle.records.specs.Values.{Table, View, Run, Image, Part, Job}
 use Rattle.manifest.specs.Ranges.{own, effective}
 use Rattle.manifest.specs.Checks.{has}
 use Rattle.incremental_progress.specs.Intervals.{Interval, listed, toRange}
 use Rattle.incremental_progress.specs.Parts.{isKey, identity, durable, intervals, openKey}
-use Rattle.incremental_progress.specs.Entries.{Entry, whole, cut, pieceEntry, outputEntries, partEntries}
+use Rattle.incremental_progress.specs.Entries.{whole, cut, outputEntries, partEntries}
 use Rattle.incremental_progress.specs.Gaps.{gapFrom, gapsFrom, gaps, pieces, gapEntries}
 use Rattle.incremental_progress.specs.Jobs.{outputs}
 use Rattle.incremental_progress.specs.Plans.{jobGaps, runDraws, drawEntries}

@@ -3,7 +3,6 @@
 use Prim.Native.Nat.{ℕ, _+_, _≤_}
 use native.Mathlib.Omega.{arith}
 use mathlib.Core.Path.{_≡_, sym, subst, _∙_}
-use mathlib.Core.Bool.{true}
 use mathlib.Core.List.{List, flatMap}
 use lib.Dec.{leb}
 use lib.ListN.{length, take, drop, length-append}

@@ -2,14 +2,14 @@
 -- Assumes nothing.
 use Prim.Native.Nat.{ℕ, zero, suc, _+_, _-_, _*_, _^_, _≤_, _<_}
 use native.Mathlib.Omega.{arith}
-use mathlib.Core.Path.{_≡_, refl, sym, ap, _∙_, subst}
+use mathlib.Core.Path.{_≡_, refl, sym, ap, _∙_}
 use mathlib.Core.List.{List, [], _∷_, flatMap}
 use lib.ListN.{length, getD, drop, length-append}
 use mir.Val.{Fits}
 use mir.Syntax.{w64}
 use Rattle.base.specs.Lists.{All, All-of}
 use Rattle.base.specs.Rows.{rowsIn, rowAt, rows-at, row-number, length-rows, Each}
-use Rattle.records.specs.Values.{Run, Part}
+use Rattle.records.specs.Values.{Run}
 use Rattle.records.specs.Layouts.{table}
 use Rattle.records.proofs.Forms.{readMany-length}
 use Rattle.incremental_progress.specs.Jobs.{outputs}

@@ -1,28 +1,26 @@
 -- The exits of the stages.
 -- Assumes nothing.
-use Prim.Native.Nat.{ℕ, _*_, _≤_}
+use Prim.Native.Nat.{ℕ, _≤_}
 use native.Mathlib.Omega.{arith}
 use mathlib.Core.Path.{_≡_, sym, ap, _∙_}
 use mathlib.Core.Bool.{Bool, true, false}
 use mathlib.Core.List.{List, []}
 use lib.ListN.{length}
-use Rattle.base.specs.Outcome.{Outcome, stop, check, lent, reported}
+use Rattle.base.specs.Outcome.{stop, check, lent, reported}
 use Rattle.base.specs.declared.Written.{Written}
 use Rattle.base.specs.declared.Written.the-variants.{Stop}
-use Rattle.commit_durable.specs.Tables.{jobOf, jobGaps, GapsHold, PartsHold}
+use Rattle.commit_durable.specs.Tables.{jobOf, jobGaps}
 use Rattle.commit_durable.specs.Answers.{GapsMade}
-use Rattle.commit_index.specs.Index.{imageOf, IndexHold}
+use Rattle.commit_index.specs.Index.{imageOf}
 use Rattle.commit_gaps.proofs.InOrder.{gaps-ordered}
 use Rattle.commit_covered.specs.Covered.{coveredBy}
 use Rattle.commit_covered.specs.Kept.{Room}
 use Rattle.commit_covered.specs.Runs.{CoverReady}
-use Rattle.commit_covered.specs.declared.runs.CoverHead.{CoverHead}
 use Rattle.commit_covered.proofs.Sizes.{few-outputs}
 use Rattle.commit_entries.proofs.Planning.{planned-begin}
 use Rattle.commit_entries.specs.declared.Plan.{Plan}
 use Rattle.commit_outputs.specs.Outputs.{PlannedOutputs}
-use Rattle.commit_plan.specs.Plans.{ImagePassed, HeadHeld, GapsReady, OutputsPlanned, CommitPlanned}
-use Rattle.commit_plan.specs.declared.plan.PlanHead.{PlanHead}
+use Rattle.commit_plan.specs.Plans.{HeadHeld, GapsReady, OutputsPlanned, CommitPlanned}
 use Rattle.commit_plan.specs.declared.plan.ImagePlan.{ImagePlan}
 use Rattle.commit.specs.Stages.{plannedOutcome, coveredOutcome, Read, StageHeld, Ready, RowsEnough, rowsAtMost}
 use Rattle.commit.specs.declared.stages.StageHead.{StageHead}

@@ -19,11 +19,11 @@ use Rattle.incremental_progress.specs.Commit.{drawnImage, jobChecked, applied}
 use Rattle.incremental_progress.specs.Laws.{JobPasses}
 use Rattle.incremental_progress.proofs.GapCommit.{commit-by-gaps}
 use Rattle.incremental_progress.proofs.ProgressLaws.{retained-always-meets}
-use Rattle.commit_index.specs.Index.{imageOf, IndexHold}
-use Rattle.commit_durable.specs.Tables.{jobOf, jobGaps}
+use Rattle.commit_index.specs.Index.{imageOf}
+use Rattle.commit_durable.specs.Tables.{jobOf}
 use Rattle.commit_durable.specs.declared.jobs.JobHead.{JobHead}
 use Rattle.commit_covered.proofs.ByGaps.{covered-by-gaps}
-use Rattle.commit.specs.Stages.{appliedOutcome, drawnOutcome, coveredOutcome, progressFault, Given, HeadTold, Read, StageHeld}
+use Rattle.commit.specs.Stages.{appliedOutcome, drawnOutcome, coveredOutcome, progressFault, Given, Read, StageHeld}
 
 -- ---- the checks 8 to 11
 record Four (a b c d : Bool) : Type 0 where

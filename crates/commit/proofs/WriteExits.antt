@@ -1,25 +1,23 @@
 -- The exits of `write_image` and `finish`.
 -- Assumes nothing.
-use Prim.Native.Nat.{ℕ, _+_, _*_, _≤_, _<_}
+use Prim.Native.Nat.{ℕ, _+_, _≤_, _<_}
 use native.Mathlib.Omega.{arith}
 use mathlib.Core.Path.{_≡_, refl, sym, ap, subst, _∙_}
 use mathlib.Core.Bool.{Bool, true, false, _&&_}
-use mathlib.Core.List.{List, [], _∷_, _++_}
+use mathlib.Core.List.{List, [], _++_}
 use lib.ListN.{length, drop}
 use lib.Dec.{T, leb}
 use borrow.Author.Tests.{le-leb, lt-leb}
 use Rattle.base.specs.Splice.{splice}
-use Rattle.base.specs.Outcome.{Outcome, stop, answer, check, andThen, lent, writtenTo, reported, stops-16, keeps, wrote, stands}
+use Rattle.base.specs.Outcome.{stop, answer, check, andThen, lent, writtenTo, reported, stops-16, keeps, wrote, stands}
 use Rattle.base.specs.declared.Written.the-variants.{Wrote, Stop}
-use Rattle.base.specs.declared.Written.{Written}
 use Rattle.format.specs.Got.{Got, got, isGot}
 use Rattle.format.specs.Got.{stop as stopped}
 use Rattle.records.specs.Values.{Image}
 use Rattle.records.specs.Layouts.{image, run}
-use Rattle.records.specs.Form.{readMany}
 use Rattle.records.specs.There.{RunsThere}
 use Rattle.records.proofs.Forms.{readMany-length}
-use Rattle.incremental_progress.specs.Commit.{drawnOr, drawnImage, resultFits}
+use Rattle.incremental_progress.specs.Commit.{drawnImage}
 use Rattle.commit_index.specs.Index.{imageOf}
 use Rattle.commit_plan.specs.declared.plan.ImagePlan.{ImagePlan}
 use Rattle.commit_write.specs.Runs.{plannedImage, Writable}

@@ -14,11 +14,11 @@ use Rattle.comparable_range.specs.Range.{Range}
 use Rattle.records.specs.Form.{writeMany}
 use Rattle.records.specs.Values.{View}
 use Rattle.records.specs.Layouts.{view}
-use Rattle.incremental_progress.specs.Draws.{Ten, Drawn, used-up, got, supply, next, draw, drawnView, fillAll}
+use Rattle.incremental_progress.specs.Draws.{Ten, used-up, got, supply, draw, drawnView, fillAll}
 use Rattle.incremental_progress.specs.Entries.{Entry, whole, cut, entryView}
-use Rattle.incremental_progress.specs.Gaps.{Placed, placed}
+use Rattle.incremental_progress.specs.Gaps.{placed}
 use Rattle.incremental_progress.proofs.FilledViews.{fill-append, filled-length}
-use Rattle.commit_rows.specs.Numbers.{rowOf, rowNumbers}
+use Rattle.commit_rows.specs.Numbers.{rowNumbers}
 use Rattle.commit_rows.specs.Bytes.{RowInside, rowBytes, lengthAs, rowLength}
 use Rattle.commit_rows.specs.declared.rows.Form.{Form}
 use Rattle.commit_rows.specs.declared.rows.Form.the-variants.{Whole, Output, CutOutput, Cut}

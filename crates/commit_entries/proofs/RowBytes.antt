@@ -1,9 +1,9 @@
 -- The bytes of the views that entries become, and how many they are.
 -- Assumes nothing.
-use Prim.Native.Nat.{ℕ, _+_, _-_, _≤_}
+use Prim.Native.Nat.{ℕ, _+_, _-_}
 use native.Mathlib.Omega.{arith}
-use mathlib.Core.Path.{_≡_, refl, sym, ap, ap₂, _∙_}
-use mathlib.Core.List.{List, [], _∷_, _++_}
+use mathlib.Core.Path.{_≡_, refl, sym, ap, _∙_}
+use mathlib.Core.List.{List, [], _++_}
 use lib.ListN.{length, take, drop, length-append, length-drop}
 use lib.Seq.{length-take-le, take-take}
 use Rattle.comparable_range.specs.Range.{Range, boundOf}
@@ -19,7 +19,7 @@ use Rattle.records.specs.Layouts.{table, view}
 use Rattle.incremental_progress.specs.Parts.{identity}
 use Rattle.incremental_progress.specs.Draws.{drawnView}
 use Rattle.incremental_progress.specs.Entries.{cut, entryView}
-use Rattle.commit_rows.specs.Bytes.{between, newIdBytes, cutBytes, wholeBytes, boundLength, rangeLength}
+use Rattle.commit_rows.specs.Bytes.{newIdBytes, cutBytes, wholeBytes, boundLength, rangeLength}
 
 -- ---- the bytes
 pub cut-view-bytes : (v : View) (r : Range) (ten : List ℕ) → view .write (drawnView v r ten) ≡ cutBytes (take 6 (v .id .0) ++ ten) (table .write (v .table)) (writeRange r)

@@ -2,15 +2,15 @@
 -- Assumes nothing.
 use Prim.Native.Nat.{ℕ, _+_, _-_, _*_, _/_, _≤_, _<_, _^_}
 use native.Mathlib.Omega.{arith}
-use mathlib.Core.Path.{_≡_, refl, sym, ap, _∙_}
+use mathlib.Core.Path.{_≡_, refl, sym}
 use mathlib.Core.Bool.{true, false}
-use mathlib.Core.List.{List, [], _∷_}
-use lib.ListN.{length, take, drop}
+use mathlib.Core.List.{List, []}
+use lib.ListN.{length, drop}
 use mir.Val.{Fits}
 use mir.Syntax.{w64}
 use Rattle.base.specs.Splice.{splice, spliced-length}
 use Rattle.comparable_range.specs.declared.Kind.{Kind}
-use Rattle.comparable_range.specs.declared.Kind.the-variants.{Unbounded, Included, Excluded}
+use Rattle.comparable_range.specs.declared.Kind.the-variants.{Included, Excluded}
 use Rattle.comparable_range.specs.declared.Side.{Side}
 use Rattle.records.specs.declared.ids.ViewId.{ViewId}
 use Rattle.incremental_progress.specs.Draws.{supply, draw}
@@ -19,7 +19,6 @@ use Rattle.incremental_progress.specs.declared.Draw.the-variants.{At, UsedUp}
 use Rattle.commit_ids.specs.Supply.{DrawFound}
 use Rattle.commit_rows.specs.Numbers.{rowNumbers}
 use Rattle.commit_rows.specs.Bytes.{boundLength, rangeLength, rowLength}
-use Rattle.commit_rows.specs.declared.rows.Form.{Form}
 use Rattle.commit_rows.specs.declared.rows.Form.the-variants.{Whole, Output, CutOutput, Cut}
 use Rattle.commit_rows.specs.declared.rows.Row.{Row}
 use Rattle.commit_entries.specs.Planned.{RowSmall, KeptRow, PlanReady, TenFound, drawn-at, none-left, none-before, drew, withTen, Added, AddedCut}

@@ -9,7 +9,6 @@ use lib.Seq.{length-take-le, take-at, take-append-seam}
 use Rattle.base.specs.Bytes.{Bytes, bytes-drop}
 use Rattle.format.specs.Got.{Got, got}
 use Rattle.format.specs.Laws.{Layout}
-use Rattle.records.specs.Values.{Table, View}
 use Rattle.records.specs.Layouts.{table, view}
 use Rattle.records.specs.Spans.{tableIn, viewIn}
 use Rattle.records.specs.There.{TableThere, ViewThere}

@@ -1,23 +1,22 @@
 -- The supply as draws of ten bytes, and the exits of `draw`.
 -- Assumes nothing.
-use Prim.Native.Nat.{ℕ, zero, suc, _+_, _-_, _≤_, _<_, _/_}
+use Prim.Native.Nat.{ℕ, suc, _+_, _-_, _≤_, _<_, _/_}
 use native.Mathlib.Omega.{arith}
 use mathlib.Core.Path.{_≡_, refl, sym, ap, _∙_}
 use mathlib.Core.Bool.{Bool, true, false, not}
 use mathlib.Core.List.{List, [], _∷_, _++_}
-use lib.ListN.{length, take, drop, length-take, length-drop, take-append-drop}
+use lib.ListN.{length, take, drop, length-drop, take-append-drop}
 use lib.Seq.{drop-drop, take-all}
 use Rattle.base.specs.Pick.{pick}
-use Rattle.key.specs.Order.{cmpKey, cmpNumber, orElse, isEqual}
+use Rattle.key.specs.Order.{cmpKey, cmpNumber, isEqual}
 use Rattle.key.specs.declared.Order.{Order}
 use Rattle.key.proofs.Linear.{number-linear, cmp-self}
 use Rattle.records.specs.declared.ids.TableId.{TableId}
 use Rattle.records.specs.declared.ids.ViewId.{ViewId}
 use Rattle.incremental_progress.specs.Ids.{publishingId}
-use Rattle.incremental_progress.specs.Draws.{Ten, tens, supply, Drawn, used-up, got, newId, isOld, draw}
-use Rattle.incremental_progress.specs.declared.Draw.{Draw}
+use Rattle.incremental_progress.specs.Draws.{Ten, tens, supply, got, isOld, draw}
 use Rattle.incremental_progress.specs.declared.Draw.the-variants.{At, UsedUp}
-use Rattle.commit_ids.specs.Supply.{drawIn, DrawFound}
+use Rattle.commit_ids.specs.Supply.{DrawFound}
 
 -- ---- the supply
 one-more-ten : (m n : ℕ) → m ≡ suc n → (l : List ℕ) → tens m l ≡ take 10 l ∷ tens n (drop 10 l)
