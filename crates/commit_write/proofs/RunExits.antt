@@ -4,7 +4,7 @@ use Prim.Native.Nat.{ℕ, _+_, _-_, _*_, _≤_, _<_}
 use native.Mathlib.Omega.{arith}
 use mathlib.Core.Path.{_≡_, sym, ap, _∙_}
 use mathlib.Core.List.{List, _++_}
-use lib.ListN.{length, length-append}
+use lib.ListN.{length, take, drop, length-append}
 use mir.Val.{Fits}
 use mir.Syntax.{w64}
 use Rattle.base.specs.Lists.{All, All-append, All-both, All-unmapped}
@@ -16,12 +16,14 @@ use Rattle.commit_rows.specs.declared.rows.Row.{Row}
 use Rattle.commit_rows.specs.declared.runs.RunKind.the-variants.{Other, Source, Destination}
 use Rattle.commit_rows.specs.declared.runs.RunRow.{RunRow}
 use Rattle.commit_write.specs.Put.{Put}
-use Rattle.commit_write.specs.Rows.{rowIn, countFrom, viewRows, viewBytes, RowThere, RowsThere}
-use Rattle.commit_write.specs.Buckets.{placedRows, BucketThere, BucketsThere, destinationRows, ChosenThere}
+use Rattle.commit_write.specs.Rows.{rowIn, countFrom, viewRows, viewBytes, numberedBytes, RowThere, RowsThere}
+use Rattle.commit_write.specs.Buckets.{byBucket, bucketAt, placedRows, BucketThere, BucketsThere, destinationRows}
+use Rattle.commit_write.specs.BucketLaws.{by-all}
 use Rattle.commit_write.specs.Runs.{headBytes, sourceBytes, destinationBytes, runBytes, Bucketed, Copied, DestinationFits, RunWritable}
 use Rattle.commit_write.specs.declared.runs.Reached.{Reached}
 use Rattle.commit_write.proofs.Pieces.{put-length, put-same, first-room, second-room, both-put, both-length}
 use Rattle.commit_write.proofs.Counts.{rows-length}
+use Rattle.commit_write.proofs.Placing.{order-long, chosen-bytes, chosen-front}
 
 -- ---- put_head
 pub head-length : (i n : ℕ) → length (headBytes i n) ≡ 6
@@ -122,30 +124,49 @@ module _ {image job ids t order d : List ℕ} {r : RunRow} {at : Reached} (w : R
   pub destination-head-room : at .to + 6 ≤ length d
   destination-head-room = head-room d (at .to) (r .id) (at .outputs + r .rows) all destination-room
 
-  destination-there : All (RowThere image job ids t) (placedRows (at .outputs) (at .row) (r .rows))
-  destination-there = All-append (RowThere image job ids t) (countFrom 0 (at .outputs)) (countFrom (at .row) (r .rows)) (w .outputs) (w .there)
-
-  destination-buckets : BucketsThere t (at .outputs) (at .row) (r .rows)
+  pub destination-buckets : BucketsThere t (at .outputs) (at .row) (r .rows)
   destination-buckets =
       All-append (BucketThere t) (countFrom 0 (at .outputs)) (countFrom (at .row) (r .rows))
       (bucketed image job ids t 0 (at .outputs) (w .outputs) (w .small))
       (bucketed image job ids t (at .row) (r .rows) (w .there) (fitted .small))
 
-  pub destination-chosen : ChosenThere image job ids t order (record { outputs = at .outputs; from = at .row; count = r .rows })
-  destination-chosen = record { there = destination-there; buckets = destination-buckets; room = fitted .room }
+  pub destination-places : at .outputs + r .rows ≤ length order
+  destination-places = fitted .room
 
-  module _ {e : List ℕ} {a : ℕ} (p : Put d (at .to) (headBytes (r .id) (at .outputs + r .rows)) e a) where
-    pub destination-views-room : a + length (viewBytes image job ids (destinationRows (viewRows 0 (at .outputs) t) (viewRows (at .row) (r .rows) t))) ≤ length e
-    destination-views-room = second-room d (at .to) head all destination-room p
+  abbrev numbers : List ℕ
+  numbers = byBucket (bucketAt t) 0 131 (placedRows (at .outputs) (at .row) (r .rows))
 
-    module _ {f : List ℕ} {b : ℕ} (q : Put e a (viewBytes image job ids (destinationRows (viewRows 0 (at .outputs) t) (viewRows (at .row) (r .rows) t))) f b) where
-      pub destination-put : Put d (at .to) (runBytes image job ids (viewRows 0 (at .outputs) t) r (viewRows (at .row) (r .rows) t)) f b
-      destination-put = put-same (both-put d (at .to) head all destination-room p q) destination-is
+  module _ {o : List ℕ} (s : o ≡ byBucket (bucketAt t) 0 131 (placedRows (at .outputs) (at .row) (r .rows)) ++ drop (at .outputs + r .rows) order) where
+    front : take (at .outputs + r .rows) o ≡ numbers
+    front = chosen-front t (at .outputs) (at .row) (r .rows) order destination-buckets s
 
-      pub destination-same : length f ≡ length d
-      destination-same = both-length d (at .to) head all destination-room p q
+    ordered-bytes : numberedBytes image job ids t (take (at .outputs + r .rows) o) ≡ all
+    ordered-bytes = rw front (chosen-bytes image job ids t (at .outputs) (at .row) (r .rows))
 
-pub ruleset destination-exits = (destination-few, destination-fits, destination-head-room, destination-chosen, destination-views-room, destination-put, destination-same)
+    pub ordered-same : length o ≡ length order
+    ordered-same = order-long t (at .outputs) (at .row) (r .rows) order destination-buckets destination-places s
+
+    pub ordered-long : at .outputs + r .rows ≤ length o
+    ordered-long = rw ordered-same destination-places
+
+    pub ordered-there : All (RowThere image job ids t) (take (at .outputs + r .rows) o)
+    ordered-there =
+        rw front
+        (by-all (bucketAt t) (RowThere image job ids t) 0 131 (placedRows (at .outputs) (at .row) (r .rows))
+        (All-append (RowThere image job ids t) (countFrom 0 (at .outputs)) (countFrom (at .row) (r .rows)) (w .outputs) (w .there)))
+
+    module _ {e : List ℕ} {a : ℕ} (p : Put d (at .to) (headBytes (r .id) (at .outputs + r .rows)) e a) where
+      pub ordered-room : a + length (numberedBytes image job ids t (take (at .outputs + r .rows) o)) ≤ length e
+      ordered-room = rw ordered-bytes (second-room d (at .to) head all destination-room p)
+
+      module _ {f : List ℕ} {b : ℕ} (q : Put e a (numberedBytes image job ids t (take (at .outputs + r .rows) o)) f b) where
+        pub destination-put : Put d (at .to) (runBytes image job ids (viewRows 0 (at .outputs) t) r (viewRows (at .row) (r .rows) t)) f b
+        destination-put = put-same (both-put d (at .to) head all destination-room p (put-same q ordered-bytes)) destination-is
+
+        pub destination-same : length f ≡ length d
+        destination-same = put-length destination-put (w .room)
+
+pub ruleset destination-exits = (destination-few, destination-fits, destination-head-room, destination-buckets, destination-places, ordered-same, ordered-long, ordered-there, ordered-room, destination-put, destination-same)
 
 -- ---- put_run
 module _ {image job ids t order d : List ℕ} {r : RunRow} {at : Reached} (w : RunWritable image job ids t order r at d) where

@@ -1,6 +1,6 @@
 // The new image, run by run.
-use crate::destination::Chosen;
-use crate::destination::put_destination;
+use crate::destination::place_rows;
+use crate::rows::put_in_order;
 use crate::rows::put_rows;
 use crate::views::put_part;
 use commit_rows::RunKind;
@@ -70,13 +70,10 @@ fn put_destination_run<'a>(
     ensures { λ z. ⌜ Put (now (out .entry)) (at .to) (runAt (now (image .entry)) (now (job .entry)) (now (ids .entry)) (now (rows .entry)) r at) (now (out .exit)) z ⌝ }
     ensures { λ z. ⌜ length (now (order .exit)) ≡ length (now (order .entry)) ⌝ }
 {
-    let to = put_head(out, at.to, r.id, at.outputs + r.rows);
-    let c = Chosen {
-        outputs: at.outputs,
-        from: at.row,
-        count: r.rows,
-    };
-    put_destination(image, job, ids, rows, order, c, out, to)
+    let n = at.outputs + r.rows;
+    let to = put_head(out, at.to, r.id, n);
+    place_rows(rows, at.outputs, at.row, r.rows, order);
+    put_in_order(image, job, ids, rows, order, n, out, to)
 }
 
 // A run; one that the commit leaves as it is in one copy.

@@ -5,14 +5,17 @@ use borrow.Author.Needs.{needs}
 use Rattle.commit_write.proofs.runs.put_destination_run.Statement.{statement}
 use Rattle.commit_write.proofs.runs.put_destination_run.Tie as tie
 
-add-put-head : tie.Need-add-put-head
-add-put-head c = search (needs, destination-exits)
+add-n : tie.Need-add-n
+add-n c = search (needs, destination-exits)
 
 put-head-requires : tie.Need-put-head-requires
 put-head-requires c κs = search (needs, destination-exits)
 
-put-destination-requires : tie.Need-put-destination-requires
-put-destination-requires c κs = search (needs, destination-exits)
+place-rows-requires : tie.Need-place-rows-requires
+place-rows-requires c κs = search (needs, destination-exits)
+
+put-in-order-requires : tie.Need-put-in-order-requires
+put-in-order-requires c κs = search (needs, destination-exits)
 
 same-length : tie.Need-same-length
 same-length c = search (needs, destination-exits)
@@ -27,9 +30,10 @@ pub put-destination-run-spec : {M : Type 1} → statement M
 put-destination-run-spec =
     tie.close
     (tie.spec
-    add-put-head
+    add-n
     put-head-requires
-    put-destination-requires
+    place-rows-requires
+    put-in-order-requires
     same-length
     same-length-2
     returns)
