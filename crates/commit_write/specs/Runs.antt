@@ -102,9 +102,6 @@ pub record Writable (image job ids runs rows order : List ℕ) (c : Counts) (out
   pub room : length (plannedImage image job ids runs rows c) ≤ length out
 
 -- ---- one run, whose rows begin at a row and whose bytes go to a place
-abbrev pub sourceAt : List ℕ → List ℕ → List ℕ → List ℕ → RunRow → Reached → List ℕ
-sourceAt image job ids rows r at = sourceBytes image job ids r (viewRows (at .row) (r .rows) rows)
-
 abbrev pub runAt : List ℕ → List ℕ → List ℕ → List ℕ → RunRow → Reached → List ℕ
 runAt image job ids rows r at = runBytes image job ids (viewRows 0 (at .outputs) rows) r (viewRows (at .row) (r .rows) rows)
 

@@ -11,8 +11,7 @@ ghost use lib.ListN.{length};
 ghost use Rattle.base.specs.Splice.{splice};
 ghost use Rattle.commit_rows.specs.declared.runs.RunKind.the-variants.{Destination};
 ghost use Rattle.commit_write.specs.Put.{Put};
-ghost use Rattle.commit_write.specs.Rows.{RowsThere};
-ghost use Rattle.commit_write.specs.Runs.{headBytes, sourceAt, runAt, runsWritten, plannedImage, Writable, RunWritable};
+ghost use Rattle.commit_write.specs.Runs.{headBytes, runAt, runsWritten, plannedImage, Writable, RunWritable};
 
 // How many runs there are, and how many outputs go into the destination.
 pub struct Counts {
@@ -37,24 +36,6 @@ fn put_head(out: &mut [u8], to: usize, id: usize, count: usize) -> usize
     to + 6
 }
 
-// A source: what is left of its views.
-fn put_source_run<'a>(
-    image: &'a [u8],
-    job: &'a [u8],
-    ids: &[u8],
-    rows: &[usize],
-    r: RunRow,
-    at: Reached,
-    out: &mut [u8],
-) -> usize
-    requires { ⌜ r .rows ≤ 1024 ⌝ ∗ ⌜ RowsThere (now image) (now job) (now ids) (now rows) (at .row) (r .rows) ⌝ }
-    requires { ⌜ at .to + length (sourceAt (now image) (now job) (now ids) (now rows) r at) ≤ length (now out) ⌝ }
-    ensures { λ z. ⌜ Put (now (out .entry)) (at .to) (sourceAt (now (image .entry)) (now (job .entry)) (now (ids .entry)) (now (rows .entry)) r at) (now (out .exit)) z ⌝ }
-{
-    let to = put_head(out, at.to, r.id, r.rows);
-    put_rows(image, job, ids, rows, at.row, r.rows, out, to)
-}
-
 // The destination: what is left of its views, and the outputs between them.
 fn put_destination_run<'a>(
     image: &'a [u8],
@@ -76,7 +57,7 @@ fn put_destination_run<'a>(
     put_in_order(image, job, ids, rows, order, n, out, to)
 }
 
-// A run; one that the commit leaves as it is in one copy.
+// A run: one that the commit leaves as it is in one copy, a source as what is left of its views.
 fn put_run<'a>(
     image: &'a [u8],
     job: &'a [u8],
@@ -94,7 +75,10 @@ fn put_run<'a>(
     let kind = r.kind;
     match kind {
         RunKind::Other => put_part(image, r.first - 6, r.past, out, at.to),
-        RunKind::Source => put_source_run(image, job, ids, rows, r, at, out),
+        RunKind::Source => {
+            let to = put_head(out, at.to, r.id, r.rows);
+            put_rows(image, job, ids, rows, at.row, r.rows, out, to)
+        }
         RunKind::Destination => put_destination_run(image, job, ids, rows, order, r, at, out),
     }
 }

@@ -17,8 +17,11 @@ put-part-requires c κs = search (needs, run-exits)
 enum-told-2 : tie.Need-enum-told-2
 enum-told-2 c = search (needs, run-exits)
 
-put-source-run-requires : tie.Need-put-source-run-requires
-put-source-run-requires c κs = search (needs, run-exits)
+put-head-requires : tie.Need-put-head-requires
+put-head-requires c κs = search (needs, run-exits)
+
+put-rows-requires : tie.Need-put-rows-requires
+put-rows-requires c κs = search (needs, run-exits)
 
 enum-told-3 : tie.Need-enum-told-3
 enum-told-3 c = search (needs, run-exits)
@@ -55,7 +58,8 @@ put-run-spec =
     sub-put-part
     put-part-requires
     enum-told-2
-    put-source-run-requires
+    put-head-requires
+    put-rows-requires
     enum-told-3
     put-destination-run-requires
     same-length
