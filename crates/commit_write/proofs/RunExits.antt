@@ -81,7 +81,7 @@ module _ (image job ids : List ℕ) (outputs : List Row) (r : RunRow) (rows : Li
   unfolding runBytes
   destination-run-bytes e = rw e
 
--- ---- put_destination_run
+-- ---- put_run: the destination
 bucketed : (image job ids t : List ℕ) (from n : ℕ) → RowsThere image job ids t from n → Bucketed (viewRows from n t) → All (BucketThere t) (countFrom from n)
 bucketed image job ids t from n a b =
     All-both (λ k x y. record { long = x .long; small = y }) (countFrom from n) a (All-unmapped (λ (r : Row). r .bucket < 131) (rowIn t) (countFrom from n) b)
@@ -149,18 +149,13 @@ module _ {image job ids t order d : List ℕ} {r : RunRow} {at : Reached} (w : R
         pub destination-same : length f ≡ length d
         destination-same = put-length destination-put (w .room)
 
-pub ruleset destination-exits = (destination-few, destination-fits, destination-head-room, destination-buckets, destination-places, ordered-same, ordered-long, ordered-there, ordered-room, destination-put, destination-same)
-
--- ---- put_run
+-- ---- put_run: any other run
 module _ {image job ids t order d : List ℕ} {r : RunRow} {at : Reached} (w : RunWritable image job ids t order r at d) where
   abbrev outs : List Row
   outs = viewRows 0 (at .outputs) t
 
   abbrev own : List Row
   own = viewRows (at .row) (r .rows) t
-
-  pub run-same : {f : List ℕ} {b : ℕ} → Put d (at .to) (runBytes image job ids (viewRows 0 (at .outputs) t) r (viewRows (at .row) (r .rows) t)) f b → length f ≡ length d
-  run-same p = put-length p (w .room)
 
   module _ (k : r .kind ≡ Other) where
     copied : Copied image r
@@ -208,4 +203,4 @@ module _ {image job ids t order d : List ℕ} {r : RunRow} {at : Reached} (w : R
         pub source-same : length f ≡ length d
         source-same = put-length source-put (w .room)
 
-pub ruleset run-exits = (run-same, other-head, other-order, other-past, other-room, other-put, other-same, source-few, source-there, source-head-room, source-views-room, source-put, source-same)
+pub ruleset run-exits = (destination-few, destination-fits, destination-head-room, destination-buckets, destination-places, ordered-same, ordered-long, ordered-there, ordered-room, destination-put, destination-same, other-head, other-order, other-past, other-room, other-put, other-same, source-few, source-there, source-head-room, source-views-room, source-put, source-same)

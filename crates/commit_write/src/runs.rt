@@ -9,7 +9,6 @@ ghost use mathlib.Core.Path.{_≡_};
 ghost use Prim.Native.Nat.{_≤_, _+_};
 ghost use lib.ListN.{length};
 ghost use Rattle.base.specs.Splice.{splice};
-ghost use Rattle.commit_rows.specs.declared.runs.RunKind.the-variants.{Destination};
 ghost use Rattle.commit_write.specs.Put.{Put};
 ghost use Rattle.commit_write.specs.Runs.{headBytes, runAt, runsWritten, plannedImage, Writable, RunWritable};
 
@@ -36,28 +35,8 @@ fn put_head(out: &mut [u8], to: usize, id: usize, count: usize) -> usize
     to + 6
 }
 
-// The destination: what is left of its views, and the outputs between them.
-fn put_destination_run<'a>(
-    image: &'a [u8],
-    job: &'a [u8],
-    ids: &[u8],
-    rows: &[usize],
-    order: &mut [usize],
-    r: RunRow,
-    at: Reached,
-    out: &mut [u8],
-) -> usize
-    requires { ⌜ RunWritable (now image) (now job) (now ids) (now rows) (now order) r at (now out) ⌝ ∗ ⌜ r .kind ≡ Destination ⌝ }
-    ensures { λ z. ⌜ Put (now (out .entry)) (at .to) (runAt (now (image .entry)) (now (job .entry)) (now (ids .entry)) (now (rows .entry)) r at) (now (out .exit)) z ⌝ }
-    ensures { λ z. ⌜ length (now (order .exit)) ≡ length (now (order .entry)) ⌝ }
-{
-    let n = at.outputs + r.rows;
-    let to = put_head(out, at.to, r.id, n);
-    place_rows(rows, at.outputs, at.row, r.rows, order);
-    put_in_order(image, job, ids, rows, order, n, out, to)
-}
-
-// A run: one that the commit leaves as it is in one copy, a source as what is left of its views.
+// A run: one that the commit leaves as it is in one copy, a source as what is left of its views, and the
+// destination as what is left of its views and the outputs between them.
 fn put_run<'a>(
     image: &'a [u8],
     job: &'a [u8],
@@ -79,7 +58,12 @@ fn put_run<'a>(
             let to = put_head(out, at.to, r.id, r.rows);
             put_rows(image, job, ids, rows, at.row, r.rows, out, to)
         }
-        RunKind::Destination => put_destination_run(image, job, ids, rows, order, r, at, out),
+        RunKind::Destination => {
+            let n = at.outputs + r.rows;
+            let to = put_head(out, at.to, r.id, n);
+            place_rows(rows, at.outputs, at.row, r.rows, order);
+            put_in_order(image, job, ids, rows, order, n, out, to)
+        }
     }
 }
 
