@@ -59,10 +59,6 @@ planned (r ∷ rs) = r .rows + planned rs
 abbrev pub allRows : Counts → List ℕ → List ℕ → List Row
 allRows c runs rows = map rowOf (rowsIn 11 (c .outputs + planned (runsIn (c .runs) runs)) rows)
 
-abbrev pub runsWritten : List ℕ → List ℕ → List ℕ → List ℕ → List ℕ → Counts → List ℕ
-runsWritten image job ids runs rows c =
-    runsBytes image job ids (take (c .outputs) (allRows c runs rows)) (runsIn (c .runs) runs) (drop (c .outputs) (allRows c runs rows))
-
 abbrev pub plannedImage : List ℕ → List ℕ → List ℕ → List ℕ → List ℕ → Counts → List ℕ
 plannedImage image job ids runs rows c =
     newImageBytes image job ids (take (c .outputs) (allRows c runs rows)) (runsIn (c .runs) runs) (drop (c .outputs) (allRows c runs rows))

@@ -10,7 +10,7 @@ ghost use Prim.Native.Nat.{_≤_, _+_};
 ghost use lib.ListN.{length};
 ghost use Rattle.base.specs.Splice.{splice};
 ghost use Rattle.commit_write.specs.Put.{Put};
-ghost use Rattle.commit_write.specs.Runs.{headBytes, runAt, runsWritten, plannedImage, Writable, RunWritable};
+ghost use Rattle.commit_write.specs.Runs.{headBytes, runAt, plannedImage, Writable, RunWritable};
 
 // How many runs there are, and how many outputs go into the destination.
 pub struct Counts {
@@ -67,39 +67,7 @@ fn put_run<'a>(
     }
 }
 
-// The runs, one after another, past the byte with their number.
-fn put_runs<'a>(
-    image: &'a [u8],
-    job: &'a [u8],
-    ids: &[u8],
-    runs: &[usize],
-    rows: &[usize],
-    order: &mut [usize],
-    out: &mut [u8],
-    c: Counts,
-)
-    requires { ⌜ Writable (now image) (now job) (now ids) (now runs) (now rows) (now order) c (now out) ⌝ }
-    ensures { λ _. ⌜ now (out .exit) ≡ splice (now (out .entry)) 1 (runsWritten (now (image .entry)) (now (job .entry)) (now (ids .entry)) (now (runs .entry)) (now (rows .entry)) c) ⌝ }
-{
-    let n = c.runs;
-    let m = c.outputs;
-    let mut k = 0;
-    let mut row = m;
-    let mut to = 1;
-    while k < n {
-        let r = commit_rows::run_row(runs, k);
-        let at = Reached {
-            outputs: m,
-            row,
-            to,
-        };
-        to = put_run(image, job, ids, rows, order, r, at, out);
-        row += r.rows;
-        k += 1;
-    }
-}
-
-// The whole image: the number of runs, and the runs. The places of out past it stay.
+// The whole image: the number of runs, and the runs one after another. The places of out past it stay.
 pub fn put_image<'a>(
     image: &'a [u8],
     job: &'a [u8],
@@ -114,6 +82,20 @@ pub fn put_image<'a>(
     ensures { λ _. ⌜ now (out .exit) ≡ splice (now (out .entry)) 0 (plannedImage (now (image .entry)) (now (job .entry)) (now (ids .entry)) (now (runs .entry)) (now (rows .entry)) c) ⌝ }
 {
     let n = c.runs;
+    let m = c.outputs;
     format::put_number(out, 0, n as u64, 1);
-    put_runs(image, job, ids, runs, rows, order, out, c);
+    let mut k = 0;
+    let mut row = m;
+    let mut to = 1;
+    while k < n {
+        let r = commit_rows::run_row(runs, k);
+        let at = Reached {
+            outputs: m,
+            row,
+            to,
+        };
+        to = put_run(image, job, ids, rows, order, r, at, out);
+        row += r.rows;
+        k += 1;
+    }
 }
