@@ -21,7 +21,7 @@ use Rattle.commit_write.specs.Buckets.{byBucket, bucketAt, placedRows, B
 use Rattle.commit_write.specs.BucketLaws.{by-all}
 use Rattle.commit_write.specs.Runs.{headBytes, sourceBytes, destinationBytes, runBytes, Bucketed, Copied, DestinationFits, RunWritable}
 use Rattle.commit_write.specs.declared.runs.Reached.{Reached}
-use Rattle.commit_write.proofs.Pieces.{put-length, put-same, first-room, second-room, both-put}
+use Rattle.commit_write.proofs.Pieces.{put-length, put-same, same-room, same-length, first-room, second-room, both-put}
 use Rattle.commit_write.proofs.Counts.{rows-length}
 use Rattle.commit_write.proofs.Placing.{order-long, chosen-bytes, chosen-front}
 
@@ -170,15 +170,6 @@ module _ {image job ids t order d : List ℕ} {r : RunRow} {at : Reached} (w : R
     pub other-past : r .past ≤ length image
     other-past = copied .past
 
-    pub other-room : at .to + length (between image (r .first - 6) (r .past)) ≤ length d
-    other-room = rw (other-bytes image job ids outs r own k) (w .room)
-
-    pub other-put : {f : List ℕ} {b : ℕ} → Put d (at .to) (between image (r .first - 6) (r .past)) f b → Put d (at .to) (runBytes image job ids (viewRows 0 (at .outputs) t) r (viewRows (at .row) (r .rows) t)) f b
-    other-put p = put-same p (other-bytes image job ids outs r own k)
-
-    pub other-same : {f : List ℕ} {b : ℕ} → Put d (at .to) (between image (r .first - 6) (r .past)) f b → length f ≡ length d
-    other-same p = put-length p other-room
-
   module _ (k : r .kind ≡ Source) where
     pub source-few : r .rows ≤ 1024
     source-few = w .fits .source k
@@ -203,4 +194,4 @@ module _ {image job ids t order d : List ℕ} {r : RunRow} {at : Reached} (w : R
         pub source-same : length f ≡ length d
         source-same = put-length source-put (w .room)
 
-pub ruleset run-exits = (destination-few, destination-fits, destination-head-room, destination-buckets, destination-places, ordered-same, ordered-long, ordered-there, ordered-room, destination-put, destination-same, other-head, other-order, other-past, other-room, other-put, other-same, source-few, source-there, source-head-room, source-views-room, source-put, source-same)
+pub ruleset run-exits = (destination-few, destination-fits, destination-head-room, destination-buckets, destination-places, ordered-same, ordered-long, ordered-there, ordered-room, destination-put, destination-same, other-head, other-order, other-past, other-bytes, put-same, same-room, same-length, source-few, source-there, source-head-room, source-views-room, source-put, source-same)
