@@ -9,7 +9,7 @@ use mir.Val.{Fits}
 use mir.Syntax.{w64}
 use Rattle.base.specs.Lists.{All, All-left, All-unmapped, All-both}
 use Rattle.base.specs.Rows.{rowAt, rowsIn, rows-at, length-rows}
-use Rattle.base.specs.Splice.{splice, splice-splice, length-splice}
+use Rattle.base.specs.Splice.{splice}
 use Rattle.format.specs.Number.{writeNumber}
 use Rattle.format.proofs.Layouts.{number-length}
 use Rattle.commit_rows.specs.Numbers.{runOf}
@@ -18,9 +18,9 @@ use Rattle.commit_rows.specs.declared.rows.Row.{Row}
 use Rattle.commit_rows.specs.declared.runs.RunRow.{RunRow}
 use Rattle.commit_write.specs.Put.{Put}
 use Rattle.commit_write.specs.Rows.{rowIn, countFrom, viewRows, RowThere, RowsThere}
-use Rattle.commit_write.specs.Runs.{runBytes, runsBytes, newImageBytes, runsIn, planned, allRows, runsWritten, plannedImage, Bucketed, RunFits, RunsFit, Writable, RunWritable}
+use Rattle.commit_write.specs.Runs.{runBytes, runsBytes, newImageBytes, runsIn, planned, allRows, plannedImage, Bucketed, RunFits, RunsFit, Writable, RunWritable}
 use Rattle.commit_write.specs.declared.runs.Counts.{Counts}
-use Rattle.commit_write.proofs.Pieces.{put-length, put-none, first-room, second-room, both-put}
+use Rattle.commit_write.proofs.Pieces.{put-length, put-same, put-none, first-room, second-room, both-put}
 use Rattle.commit_write.proofs.Counts.{count-append, count-all, rows-numbered, rows-take, rows-skip}
 
 -- ---- a run, and those after it
@@ -107,49 +107,15 @@ module _ (runs rows : List ℕ) (c : Counts) where
       let z : 0 + c .outputs ≡ c .outputs = omega arith in
       ap (drop (c .outputs)) (rows-numbered (c .outputs + p) rows) ∙ rows-skip 0 (c .outputs) p rows ∙ ap (λ k. viewRows k p rows) z
 
-  written-is : (image job ids : List ℕ) → runsWritten image job ids runs rows c ≡ runsBytes image job ids (viewRows 0 (c .outputs) rows) (runsIn (c .runs) runs) (viewRows (c .outputs) p rows)
-  written-is image job ids = rw (outputs-are, plan-is)
+  image-is : (image job ids : List ℕ) → plannedImage image job ids runs rows c ≡ writeNumber 1 (c .runs) ++ runsBytes image job ids (viewRows 0 (c .outputs) rows) (runsIn (c .runs) runs) (viewRows (c .outputs) p rows)
+  unfolding newImageBytes
+  image-is image job ids = rw (outputs-are, plan-is, runs-length (c .runs) runs)
 
 rows-there : (image job ids t : List ℕ) (n : ℕ) → n * 11 ≤ length t → All (RowInside image job ids) (viewRows 0 n t) → RowsThere image job ids t 0 n
 rows-there image job ids t n h a =
     All-both (λ k l x. record { long = l; inside = x }) (countFrom 0 n)
     (count-all (λ k. k * 11 + 11 ≤ length t) 0 n (λ k a b. omega arith))
     (All-unmapped (RowInside image job ids) (rowIn t) (countFrom 0 n) a)
-
-image-long : (image job ids runs rows : List ℕ) (c : Counts) → length (plannedImage image job ids runs rows c) ≡ 1 + length (runsWritten image job ids runs rows c)
-unfolding newImageBytes
-image-long image job ids runs rows c =
-    length-append (writeNumber 1 (length (runsIn (c .runs) runs))) (runsWritten image job ids runs rows c)
-    ∙ ap (λ n. n + length (runsWritten image job ids runs rows c)) (number-length 1 (length (runsIn (c .runs) runs)))
-
-pub putting-begin :
-    {image job ids runs rows order : List ℕ} {c : Counts} {d : List ℕ}
-    → Writable image job ids runs rows order c d
-    → length runs < 2 ^ 64
-    → length rows < 2 ^ 64
-    → Putting image job ids runs rows order d (c .runs) (c .outputs) order d 0 (c .outputs) 1
-putting-begin {image} {job} {ids} {runs} {rows} {order} {c} {d} w u v =
-    let n = planned (runsIn (c .runs) runs) in
-    let all : RowsThere image job ids rows 0 (c .outputs + n)
-    = rows-there image job ids rows (c .outputs + n) (w .rows-long) (subst (All (RowInside image job ids)) (rows-numbered (c .outputs + n) rows) (w .inside)) in
-    let split : All (RowThere image job ids rows) (countFrom 0 (c .outputs) ++ countFrom (0 + c .outputs) n) = rw (count-append 0 (c .outputs) n) at all in
-    let z : 0 + c .outputs ≡ c .outputs = omega arith in
-    record {
-      upto = omega arith;
-      runs-fit = u;
-      rows-fit = v;
-      order-same = refl;
-      runs-long = w .runs-long;
-      rows-long = w .rows-long;
-      outputs = All-left (RowThere image job ids rows) (countFrom 0 (c .outputs)) (countFrom (0 + c .outputs) n) split;
-      small = subst Bucketed (outputs-are runs rows c) (w .small);
-      there = rw z at (All-right (RowThere image job ids rows) (countFrom 0 (c .outputs)) (countFrom (0 + c .outputs) n) split);
-      fit = subst (RunsFit image (c .outputs) (length order) (runsIn (c .runs) runs)) (plan-is runs rows c) (w .fit);
-      done = [];
-      all-is = refl;
-      room = let e = ap length (written-is runs rows c image job ids) in omega (arith, w .room, image-long image job ids runs rows c, e);
-      put = put-none d 1;
-    }
 
 module _ {image job ids runs rows order₀ d : List ℕ} {n m : ℕ} {order out : List ℕ} {k row to : ℕ} (p : Putting image job ids runs rows order₀ d n m order out k row to) where
   abbrev outs : List Row
@@ -167,11 +133,11 @@ module _ {image job ids runs rows order₀ d : List ℕ} {n m : ℕ} {order out 
   pub putting-order : length order ≡ length order₀
   putting-order = p .order-same
 
-  pub putting-all : n ≤ k → out ≡ splice d 1 (runsBytes image job ids (viewRows 0 m rows) (runsIn n runs) (viewRows m (planned (runsIn n runs)) rows))
+  putting-all : n ≤ k → Put d 1 (runsBytes image job ids (viewRows 0 m rows) (runsIn n runs) (viewRows m (planned (runsIn n runs)) rows)) out to
   putting-all h =
       let e : drop k (runsIn n runs) ≡ [] = drop-of-length-le (runsIn n runs) {i = k} (rw (runs-length n runs) h) in
       let a : bytes (runsIn n runs) m ≡ p .done = p .all-is ∙ ap (λ rs. p .done ++ bytes rs row) e ∙ ap (λ l. p .done ++ l) (bytes-none image job ids outs (viewRows row (planned []) rows)) ∙ append-nil (p .done) in
-      p .put .is ∙ ap (splice d 1) (sym a)
+      put-same (p .put) (sym a)
 
   module _ (h : k < n) where
     pub putting-row : k * 6 + 6 ≤ length runs
@@ -244,58 +210,53 @@ module _ {image job ids runs rows order₀ d : List ℕ} {n m : ℕ} {order out 
             put = both-put d 1 (p .done) this this-room (p .put) u;
           }
 
--- ---- put_runs
-pub runs-put :
-    {image job ids : List ℕ} (runs rows : List ℕ) (order₀ : List ℕ) (c : Counts) {d order out : List ℕ} {k row to : ℕ}
-    → Putting image job ids runs rows order₀ d (c .runs) (c .outputs) order out k row to
-    → c .runs ≤ k
-    → out ≡ splice d 1 (runsWritten image job ids runs rows c)
-runs-put {image} {job} {ids} runs rows order₀ c {d} p h = putting-all p h ∙ ap (splice d 1) (sym (written-is runs rows c image job ids))
-
-pub ruleset runs-exits = (putting-begin, putting-length, putting-order, putting-row, putting-less, putting-fits, putting-writable, putting-more, runs-put)
-
 -- ---- put_image
 module _ {image job ids runs rows order : List ℕ} {c : Counts} {d : List ℕ} (w : Writable image job ids runs rows order c d) where
   abbrev count : List ℕ
-  count = writeNumber 1 (length (runsIn (c .runs) runs))
+  count = writeNumber 1 (c .runs)
 
-  image-roomy : 0 + length (count ++ runsWritten image job ids runs rows c) ≤ length d
-  image-roomy = let l = length-append count (runsWritten image job ids runs rows c) in let n = number-length 1 (length (runsIn (c .runs) runs)) in omega (arith, w .room, image-long image job ids runs rows c, l, n)
+  abbrev every : List ℕ
+  every = runsBytes image job ids (viewRows 0 (c .outputs) rows) (runsIn (c .runs) runs) (viewRows (c .outputs) (planned (runsIn (c .runs) runs)) rows)
+
+  image-room : 0 + length (count ++ every) ≤ length d
+  image-room = let e = ap length (image-is runs rows c image job ids) in omega (arith, w .room, e)
 
   pub count-room : 0 + 1 ≤ length d
-  count-room = omega (arith, w .room, image-long image job ids runs rows c)
+  count-room = omega (arith, first-room d 0 count every image-room, number-length 1 (c .runs))
 
   module _ {e : List ℕ} (a : e ≡ splice d 0 (writeNumber 1 (c .runs))) where
     count-put : Put d 0 count e 1
-    count-put =
-        record {
-          is = a ∙ ap (λ n. splice d 0 (writeNumber 1 n)) (sym (runs-length (c .runs) runs));
-          past-is = omega (arith, number-length 1 (length (runsIn (c .runs) runs)));
-        }
+    count-put = record { is = a; past-is = omega (arith, number-length 1 (c .runs)) }
 
-    count-same : length e ≡ length d
-    count-same = put-length count-put (first-room d 0 count (runsWritten image job ids runs rows c) image-roomy)
-
-    pub count-writable : Writable image job ids runs rows order c e
-    count-writable =
+    pub putting-begin : length runs < 2 ^ 64 → length rows < 2 ^ 64 → Putting image job ids runs rows order e (c .runs) (c .outputs) order e 0 (c .outputs) 1
+    putting-begin u v =
+        let n = planned (runsIn (c .runs) runs) in
+        let all : RowsThere image job ids rows 0 (c .outputs + n)
+        = rows-there image job ids rows (c .outputs + n) (w .rows-long) (subst (All (RowInside image job ids)) (rows-numbered (c .outputs + n) rows) (w .inside)) in
+        let split : All (RowThere image job ids rows) (countFrom 0 (c .outputs) ++ countFrom (0 + c .outputs) n) = rw (count-append 0 (c .outputs) n) at all in
+        let z : 0 + c .outputs ≡ c .outputs = omega arith in
         record {
+          upto = omega arith;
+          runs-fit = u;
+          rows-fit = v;
+          order-same = refl;
           runs-long = w .runs-long;
           rows-long = w .rows-long;
-          inside = w .inside;
-          small = w .small;
-          fit = w .fit;
-          room = rw count-same (w .room);
+          outputs = All-left (RowThere image job ids rows) (countFrom 0 (c .outputs)) (countFrom (0 + c .outputs) n) split;
+          small = subst Bucketed (outputs-are runs rows c) (w .small);
+          there = rw z at (All-right (RowThere image job ids rows) (countFrom 0 (c .outputs)) (countFrom (0 + c .outputs) n) split);
+          fit = subst (RunsFit image (c .outputs) (length order) (runsIn (c .runs) runs)) (plan-is runs rows c) (w .fit);
+          done = [];
+          all-is = refl;
+          room = second-room d 0 count every image-room count-put;
+          put = put-none e 1;
         }
 
-    module _ {f : List ℕ} (b : f ≡ splice e 1 (runsWritten image job ids runs rows c)) where
-      pub image-put : f ≡ splice d 0 (plannedImage image job ids runs rows c)
-      unfolding newImageBytes
-      image-put =
-          let l = number-length 1 (length (runsIn (c .runs) runs)) in
-          b ∙ ap (λ z. splice z 1 (runsWritten image job ids runs rows c)) (count-put .is)
-          ∙ splice-splice d 0 count (runsWritten image job ids runs rows c) 1 (omega (arith, l)) (omega (arith, l, count-room))
+    module _ {order′ out : List ℕ} {k row to : ℕ} (p : Putting image job ids runs rows order e (c .runs) (c .outputs) order′ out k row to) where
+      pub image-put : c .runs ≤ k → out ≡ splice d 0 (plannedImage image job ids runs rows c)
+      image-put h = both-put d 0 count every image-room count-put (putting-all p h) .is ∙ ap (splice d 0) (sym (image-is runs rows c image job ids))
 
-      pub image-same : length f ≡ length d
-      image-same = ap length image-put ∙ length-splice d 0 (plannedImage image job ids runs rows c) (omega (arith, w .room))
+      pub image-same : length out ≡ length d
+      image-same = putting-length p ∙ put-length count-put (first-room d 0 count every image-room)
 
-pub ruleset image-exits = (count-room, count-writable, image-put, image-same)
+pub ruleset image-exits = (count-room, putting-begin, putting-length, putting-order, putting-row, putting-less, putting-fits, putting-more, image-put, image-same)

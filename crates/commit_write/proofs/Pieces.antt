@@ -22,6 +22,12 @@ put-none d to = record { is = sym (splice-none d to); past-is = omega arith }
 pub put-same : {d : List ℕ} {to : ℕ} {x y e : List ℕ} {past : ℕ} → Put d to x e past → x ≡ y → Put d to y e past
 put-same {d} {to} {x} {y} {e} {past} p q = rw q at p
 
+pub same-room : (d : List ℕ) (to : ℕ) {x y : List ℕ} → x ≡ y → to + length y ≤ length d → to + length x ≤ length d
+same-room d to q h = rw q h
+
+pub same-length : {d : List ℕ} {to : ℕ} {x y e : List ℕ} {past : ℕ} → Put d to x e past → x ≡ y → to + length y ≤ length d → length e ≡ length d
+same-length {d} {to} p q h = put-length p (same-room d to q h)
+
 -- ---- two
 module _ (d : List ℕ) (to : ℕ) (x y : List ℕ) (room : to + length (x ++ y) ≤ length d) where
   size : length (x ++ y) ≡ length x + length y

@@ -4,7 +4,7 @@ use Prim.Native.Nat.{ℕ, _+_, _-_, _*_, _≤_, _<_}
 use native.Mathlib.Omega.{arith}
 use mathlib.Core.Path.{_≡_, sym, ap, _∙_}
 use mathlib.Core.List.{List, _++_}
-use lib.ListN.{length, length-append}
+use lib.ListN.{length, take, drop, length-append}
 use mir.Val.{Fits}
 use mir.Syntax.{w64}
 use Rattle.base.specs.Lists.{All, All-append, All-both, All-unmapped}
@@ -16,12 +16,14 @@ use Rattle.commit_rows.specs.declared.rows.Row.{Row}
 use Rattle.commit_rows.specs.declared.runs.RunKind.the-variants.{Other, Source, Destination}
 use Rattle.commit_rows.specs.declared.runs.RunRow.{RunRow}
 use Rattle.commit_write.specs.Put.{Put}
-use Rattle.commit_write.specs.Rows.{rowIn, countFrom, viewRows, viewBytes, RowThere, RowsThere}
-use Rattle.commit_write.specs.Buckets.{placedRows, BucketThere, BucketsThere, destinationRows, ChosenThere}
+use Rattle.commit_write.specs.Rows.{rowIn, countFrom, viewRows, viewBytes, numberedBytes, RowThere, RowsThere}
+use Rattle.commit_write.specs.Buckets.{byBucket, bucketAt, placedRows, BucketThere, BucketsThere, destinationRows}
+use Rattle.commit_write.specs.BucketLaws.{by-all}
 use Rattle.commit_write.specs.Runs.{headBytes, sourceBytes, destinationBytes, runBytes, Bucketed, Copied, DestinationFits, RunWritable}
 use Rattle.commit_write.specs.declared.runs.Reached.{Reached}
-use Rattle.commit_write.proofs.Pieces.{put-length, put-same, first-room, second-room, both-put, both-length}
+use Rattle.commit_write.proofs.Pieces.{put-length, put-same, same-room, same-length, first-room, second-room, both-put}
 use Rattle.commit_write.proofs.Counts.{rows-length}
+use Rattle.commit_write.proofs.Placing.{order-long, chosen-bytes, chosen-front}
 
 -- ---- put_head
 pub head-length : (i n : ℕ) → length (headBytes i n) ≡ 6
@@ -50,31 +52,20 @@ module _ (d : List ℕ) (to i n : ℕ) (h : to + 6 ≤ length d) {o : List ℕ} 
 
 pub ruleset head-exits = (head-rest, head-put, head-same)
 
--- a head and views
-module _ (d : List ℕ) (to i n : ℕ) (vs : List ℕ) (room : to + length (headBytes i n ++ vs) ≤ length d) where
+-- ---- a head and views, which are bytes that have room
+module _ (d : List ℕ) (to i n : ℕ) (vs : List ℕ) {x : List ℕ} (is : headBytes i n ++ vs ≡ x) (room : to + length x ≤ length d) where
+  whole-room : to + length (headBytes i n ++ vs) ≤ length d
+  whole-room = rw is room
+
   head-room : to + 6 ≤ length d
-  head-room = omega (arith, first-room d to (headBytes i n) vs room, head-length i n)
+  head-room = omega (arith, first-room d to (headBytes i n) vs whole-room, head-length i n)
 
--- ---- put_source_run
-module _ (image job ids t d : List ℕ) (r : RunRow) (at : Reached) (room : at .to + length (sourceBytes image job ids r (viewRows (at .row) (r .rows) t)) ≤ length d) where
-  abbrev views : List ℕ
-  views = viewBytes image job ids (viewRows (at .row) (r .rows) t)
+  module _ {e : List ℕ} {a : ℕ} (p : Put d to (headBytes i n) e a) where
+    views-room : a + length vs ≤ length e
+    views-room = second-room d to (headBytes i n) vs whole-room p
 
-  pub source-head-room : at .to + 6 ≤ length d
-  source-head-room = head-room d (at .to) (r .id) (r .rows) views room
-
-  module _ {e : List ℕ} {a : ℕ} (p : Put d (at .to) (headBytes (r .id) (r .rows)) e a) where
-    pub source-views-room : a + length (viewBytes image job ids (viewRows (at .row) (r .rows) t)) ≤ length e
-    source-views-room = second-room d (at .to) (headBytes (r .id) (r .rows)) views room p
-
-    module _ {f : List ℕ} {b : ℕ} (q : Put e a (viewBytes image job ids (viewRows (at .row) (r .rows) t)) f b) where
-      pub source-put : Put d (at .to) (sourceBytes image job ids r (viewRows (at .row) (r .rows) t)) f b
-      source-put = both-put d (at .to) (headBytes (r .id) (r .rows)) views room p q
-
-      pub source-same : length f ≡ length d
-      source-same = both-length d (at .to) (headBytes (r .id) (r .rows)) views room p q
-
-pub ruleset source-exits = (source-head-room, source-views-room, source-put, source-same)
+    views-put : {f : List ℕ} {b : ℕ} → Put e a vs f b → Put d to x f b
+    views-put q = put-same (both-put d to (headBytes i n) vs whole-room p q) is
 
 -- ---- the bytes of a run by its kind
 module _ (image job ids : List ℕ) (outputs : List Row) (r : RunRow) (rows : List Row) where
@@ -90,7 +81,7 @@ module _ (image job ids : List ℕ) (outputs : List Row) (r : RunRow) (rows : Li
   unfolding runBytes
   destination-run-bytes e = rw e
 
--- ---- put_destination_run
+-- ---- put_run: the destination
 bucketed : (image job ids t : List ℕ) (from n : ℕ) → RowsThere image job ids t from n → Bucketed (viewRows from n t) → All (BucketThere t) (countFrom from n)
 bucketed image job ids t from n a b =
     All-both (λ k x y. record { long = x .long; small = y }) (countFrom from n) a (All-unmapped (λ (r : Row). r .bucket < 131) (rowIn t) (countFrom from n) b)
@@ -102,16 +93,10 @@ module _ {image job ids t order d : List ℕ} {r : RunRow} {at : Reached} (w : R
   abbrev all : List ℕ
   all = viewBytes image job ids (destinationRows (viewRows 0 (at .outputs) t) (viewRows (at .row) (r .rows) t))
 
-  abbrev head : List ℕ
-  head = headBytes (r .id) (at .outputs + r .rows)
-
-  destination-is : head ++ all ≡ runBytes image job ids (viewRows 0 (at .outputs) t) r (viewRows (at .row) (r .rows) t)
+  destination-is : headBytes (r .id) (at .outputs + r .rows) ++ all ≡ runBytes image job ids (viewRows 0 (at .outputs) t) r (viewRows (at .row) (r .rows) t)
   destination-is =
       ap (λ m. headBytes (r .id) (m + r .rows) ++ all) (sym (rows-length 0 (at .outputs) t))
       ∙ destination-run-bytes image job ids (viewRows 0 (at .outputs) t) r (viewRows (at .row) (r .rows) t) k
-
-  destination-room : at .to + length (head ++ all) ≤ length d
-  destination-room = rw destination-is (w .room)
 
   pub destination-few : at .outputs + r .rows ≤ 1024
   destination-few = fitted .few
@@ -120,43 +105,57 @@ module _ {image job ids t order d : List ℕ} {r : RunRow} {at : Reached} (w : R
   destination-fits = omega (arith, fitted .few)
 
   pub destination-head-room : at .to + 6 ≤ length d
-  destination-head-room = head-room d (at .to) (r .id) (at .outputs + r .rows) all destination-room
+  destination-head-room = head-room d (at .to) (r .id) (at .outputs + r .rows) all destination-is (w .room)
 
-  destination-there : All (RowThere image job ids t) (placedRows (at .outputs) (at .row) (r .rows))
-  destination-there = All-append (RowThere image job ids t) (countFrom 0 (at .outputs)) (countFrom (at .row) (r .rows)) (w .outputs) (w .there)
-
-  destination-buckets : BucketsThere t (at .outputs) (at .row) (r .rows)
+  pub destination-buckets : BucketsThere t (at .outputs) (at .row) (r .rows)
   destination-buckets =
       All-append (BucketThere t) (countFrom 0 (at .outputs)) (countFrom (at .row) (r .rows))
       (bucketed image job ids t 0 (at .outputs) (w .outputs) (w .small))
       (bucketed image job ids t (at .row) (r .rows) (w .there) (fitted .small))
 
-  pub destination-chosen : ChosenThere image job ids t order (record { outputs = at .outputs; from = at .row; count = r .rows })
-  destination-chosen = record { there = destination-there; buckets = destination-buckets; room = fitted .room }
+  pub destination-places : at .outputs + r .rows ≤ length order
+  destination-places = fitted .room
 
-  module _ {e : List ℕ} {a : ℕ} (p : Put d (at .to) (headBytes (r .id) (at .outputs + r .rows)) e a) where
-    pub destination-views-room : a + length (viewBytes image job ids (destinationRows (viewRows 0 (at .outputs) t) (viewRows (at .row) (r .rows) t))) ≤ length e
-    destination-views-room = second-room d (at .to) head all destination-room p
+  abbrev numbers : List ℕ
+  numbers = byBucket (bucketAt t) 0 131 (placedRows (at .outputs) (at .row) (r .rows))
 
-    module _ {f : List ℕ} {b : ℕ} (q : Put e a (viewBytes image job ids (destinationRows (viewRows 0 (at .outputs) t) (viewRows (at .row) (r .rows) t))) f b) where
-      pub destination-put : Put d (at .to) (runBytes image job ids (viewRows 0 (at .outputs) t) r (viewRows (at .row) (r .rows) t)) f b
-      destination-put = put-same (both-put d (at .to) head all destination-room p q) destination-is
+  module _ {o : List ℕ} (s : o ≡ byBucket (bucketAt t) 0 131 (placedRows (at .outputs) (at .row) (r .rows)) ++ drop (at .outputs + r .rows) order) where
+    front : take (at .outputs + r .rows) o ≡ numbers
+    front = chosen-front t (at .outputs) (at .row) (r .rows) order destination-buckets s
 
-      pub destination-same : length f ≡ length d
-      destination-same = both-length d (at .to) head all destination-room p q
+    ordered-bytes : numberedBytes image job ids t (take (at .outputs + r .rows) o) ≡ all
+    ordered-bytes = rw front (chosen-bytes image job ids t (at .outputs) (at .row) (r .rows))
 
-pub ruleset destination-exits = (destination-few, destination-fits, destination-head-room, destination-chosen, destination-views-room, destination-put, destination-same)
+    pub ordered-same : length o ≡ length order
+    ordered-same = order-long t (at .outputs) (at .row) (r .rows) order destination-buckets destination-places s
 
--- ---- put_run
+    pub ordered-long : at .outputs + r .rows ≤ length o
+    ordered-long = rw ordered-same destination-places
+
+    pub ordered-there : All (RowThere image job ids t) (take (at .outputs + r .rows) o)
+    ordered-there =
+        rw front
+        (by-all (bucketAt t) (RowThere image job ids t) 0 131 (placedRows (at .outputs) (at .row) (r .rows))
+        (All-append (RowThere image job ids t) (countFrom 0 (at .outputs)) (countFrom (at .row) (r .rows)) (w .outputs) (w .there)))
+
+    module _ {e : List ℕ} {a : ℕ} (p : Put d (at .to) (headBytes (r .id) (at .outputs + r .rows)) e a) where
+      pub ordered-room : a + length (numberedBytes image job ids t (take (at .outputs + r .rows) o)) ≤ length e
+      ordered-room = rw ordered-bytes (views-room d (at .to) (r .id) (at .outputs + r .rows) all destination-is (w .room) p)
+
+      module _ {f : List ℕ} {b : ℕ} (q : Put e a (numberedBytes image job ids t (take (at .outputs + r .rows) o)) f b) where
+        pub destination-put : Put d (at .to) (runBytes image job ids (viewRows 0 (at .outputs) t) r (viewRows (at .row) (r .rows) t)) f b
+        destination-put = views-put d (at .to) (r .id) (at .outputs + r .rows) all destination-is (w .room) p (put-same q ordered-bytes)
+
+        pub destination-same : length f ≡ length d
+        destination-same = put-length destination-put (w .room)
+
+-- ---- put_run: any other run
 module _ {image job ids t order d : List ℕ} {r : RunRow} {at : Reached} (w : RunWritable image job ids t order r at d) where
   abbrev outs : List Row
   outs = viewRows 0 (at .outputs) t
 
   abbrev own : List Row
   own = viewRows (at .row) (r .rows) t
-
-  pub run-same : {f : List ℕ} {b : ℕ} → Put d (at .to) (runBytes image job ids (viewRows 0 (at .outputs) t) r (viewRows (at .row) (r .rows) t)) f b → length f ≡ length d
-  run-same p = put-length p (w .room)
 
   module _ (k : r .kind ≡ Other) where
     copied : Copied image r
@@ -171,15 +170,6 @@ module _ {image job ids t order d : List ℕ} {r : RunRow} {at : Reached} (w : R
     pub other-past : r .past ≤ length image
     other-past = copied .past
 
-    pub other-room : at .to + length (between image (r .first - 6) (r .past)) ≤ length d
-    other-room = rw (other-bytes image job ids outs r own k) (w .room)
-
-    pub other-put : {f : List ℕ} {b : ℕ} → Put d (at .to) (between image (r .first - 6) (r .past)) f b → Put d (at .to) (runBytes image job ids (viewRows 0 (at .outputs) t) r (viewRows (at .row) (r .rows) t)) f b
-    other-put p = put-same p (other-bytes image job ids outs r own k)
-
-    pub other-same : {f : List ℕ} {b : ℕ} → Put d (at .to) (between image (r .first - 6) (r .past)) f b → length f ≡ length d
-    other-same p = put-length p other-room
-
   module _ (k : r .kind ≡ Source) where
     pub source-few : r .rows ≤ 1024
     source-few = w .fits .source k
@@ -187,13 +177,21 @@ module _ {image job ids t order d : List ℕ} {r : RunRow} {at : Reached} (w : R
     pub source-there : RowsThere image job ids t (at .row) (r .rows)
     source-there = w .there
 
-    pub source-room : at .to + length (sourceBytes image job ids r (viewRows (at .row) (r .rows) t)) ≤ length d
-    source-room = rw (source-bytes image job ids outs r own k) (w .room)
+    abbrev views : List ℕ
+    views = viewBytes image job ids (viewRows (at .row) (r .rows) t)
 
-    pub source-run : {f : List ℕ} {b : ℕ} → Put d (at .to) (sourceBytes image job ids r (viewRows (at .row) (r .rows) t)) f b → Put d (at .to) (runBytes image job ids (viewRows 0 (at .outputs) t) r (viewRows (at .row) (r .rows) t)) f b
-    source-run p = put-same p (source-bytes image job ids outs r own k)
+    pub source-head-room : at .to + 6 ≤ length d
+    source-head-room = head-room d (at .to) (r .id) (r .rows) views (source-bytes image job ids outs r own k) (w .room)
 
-    pub source-run-same : {f : List ℕ} {b : ℕ} → Put d (at .to) (sourceBytes image job ids r (viewRows (at .row) (r .rows) t)) f b → length f ≡ length d
-    source-run-same p = put-length p source-room
+    module _ {e : List ℕ} {a : ℕ} (p : Put d (at .to) (headBytes (r .id) (r .rows)) e a) where
+      pub source-views-room : a + length (viewBytes image job ids (viewRows (at .row) (r .rows) t)) ≤ length e
+      source-views-room = views-room d (at .to) (r .id) (r .rows) views (source-bytes image job ids outs r own k) (w .room) p
 
-pub ruleset run-exits = (run-same, other-head, other-order, other-past, other-room, other-put, other-same, source-few, source-there, source-room, source-run, source-run-same)
+      module _ {f : List ℕ} {b : ℕ} (q : Put e a (viewBytes image job ids (viewRows (at .row) (r .rows) t)) f b) where
+        pub source-put : Put d (at .to) (runBytes image job ids (viewRows 0 (at .outputs) t) r (viewRows (at .row) (r .rows) t)) f b
+        source-put = views-put d (at .to) (r .id) (r .rows) views (source-bytes image job ids outs r own k) (w .room) p q
+
+        pub source-same : length f ≡ length d
+        source-same = put-length source-put (w .room)
+
+pub ruleset run-exits = (destination-few, destination-fits, destination-head-room, destination-buckets, destination-places, ordered-same, ordered-long, ordered-there, ordered-room, destination-put, destination-same, other-head, other-order, other-past, other-bytes, put-same, same-room, same-length, source-few, source-there, source-head-room, source-views-room, source-put, source-same)

@@ -23,7 +23,7 @@ use Rattle.commit_rows.specs.Bytes.{between, newIdBytes, cutBytes, wholeBytes, 
 use Rattle.commit_rows.specs.declared.rows.Form.the-variants.{Whole, Output, CutOutput, Cut}
 use Rattle.commit_rows.specs.declared.rows.Row.{Row}
 use Rattle.commit_write.specs.Put.{Put, sidedRange}
-use Rattle.commit_write.proofs.Pieces.{put-here, put-none, put-same, put-length, first-room, second-room, both-put, both-length, one-room, two-room, three-room, all-put, all-length}
+use Rattle.commit_write.proofs.Pieces.{put-here, put-none, put-same, same-room, same-length, put-length, first-room, second-room, both-put, both-length, one-room, two-room, three-room, all-put, all-length}
 
 -- ---- ids
 
@@ -99,39 +99,18 @@ module _ (k : Kind) (key : Key) where
   unfolding writeBound
   bound-none e = rw e
 
-  bound-included : k ≡ Included → writeKey key ≡ writeBound (boundOf k key)
+  pub bound-included : k ≡ Included → writeKey key ≡ writeBound (boundOf k key)
   unfolding writeBound
   bound-included e = rw e
 
-  bound-excluded : k ≡ Excluded → writeKey key ≡ writeBound (boundOf k key)
+  pub bound-excluded : k ≡ Excluded → writeKey key ≡ writeBound (boundOf k key)
   unfolding writeBound
   bound-excluded e = rw e
 
-module _ (d : List ℕ) (to : ℕ) (k : Kind) (key : Key) where
-  pub unbounded-put : k ≡ Unbounded → Put d to (writeBound (boundOf k key)) d to
-  unbounded-put e = put-same (put-none d to) (bound-none k key e)
+pub unbounded-put : (d : List ℕ) (to : ℕ) (k : Kind) (key : Key) → k ≡ Unbounded → Put d to (writeBound (boundOf k key)) d to
+unbounded-put d to k key e = put-same (put-none d to) (bound-none k key e)
 
-  module _ (room : to + length (writeBound (boundOf k key)) ≤ length d) where
-    pub included-room : k ≡ Included → to + length (writeKey key) ≤ length d
-    included-room e = rw (bound-included k key e) room
-
-    pub excluded-room : k ≡ Excluded → to + length (writeKey key) ≤ length d
-    excluded-room e = rw (bound-excluded k key e) room
-
-  module _ {f : List ℕ} {b : ℕ} (p : Put d to (writeKey key) f b) where
-    pub included-put : k ≡ Included → Put d to (writeBound (boundOf k key)) f b
-    included-put e = put-same p (bound-included k key e)
-
-    pub excluded-put : k ≡ Excluded → Put d to (writeBound (boundOf k key)) f b
-    excluded-put e = put-same p (bound-excluded k key e)
-
-    pub included-same : k ≡ Included → to + length (writeBound (boundOf k key)) ≤ length d → length f ≡ length d
-    included-same e h = put-length p (included-room h e)
-
-    pub excluded-same : k ≡ Excluded → to + length (writeBound (boundOf k key)) ≤ length d → length f ≡ length d
-    excluded-same e h = put-length p (excluded-room h e)
-
-pub ruleset bound-exits = (unbounded-put, included-room, excluded-room, included-put, excluded-put, included-same, excluded-same)
+pub ruleset bound-exits = (unbounded-put, bound-included, bound-excluded, put-same, same-room, same-length)
 
 -- ---- put_range: the flag and the head, and the bounds
 kind-back : (k : Kind) (key : Key) → kindOfBound (boundOf k key) ≡ k
@@ -257,11 +236,11 @@ pub ruleset output-exits = (whole-id-room, whole-table-room, whole-flag-room, wh
 
 -- ---- a row by its form
 module _ (image job ids : List ℕ) (r : Row) where
-  whole-bytes : r .form ≡ Whole → between image (r .at) (r .past) ≡ rowBytes image job ids r
+  pub whole-bytes : r .form ≡ Whole → between image (r .at) (r .past) ≡ rowBytes image job ids r
   unfolding rowBytes
   whole-bytes e = rw e
 
-  output-bytes : r .form ≡ Output → wholeBytes (between job (r .at) (r .at + 16)) (between job (r .at) (r .past)) ≡ rowBytes image job ids r
+  pub output-bytes : r .form ≡ Output → wholeBytes (between job (r .at) (r .at + 16)) (between job (r .at) (r .past)) ≡ rowBytes image job ids r
   unfolding rowBytes
   output-bytes e = rw e
 
@@ -386,31 +365,8 @@ module _ (image job ids : List ℕ) (r : Row) where
               pub cut-same : length g ≡ length d
               cut-same = all-length d to x′ y′ z′ cut-roomy p q t
 
-  -- ---- put_view
-  module _ (d : List ℕ) (to : ℕ) where
-    pub view-whole-room : r .form ≡ Whole → to + length (rowBytes image job ids r) ≤ length d → to + length (between image (r .at) (r .past)) ≤ length d
-    view-whole-room e h = rw (whole-bytes e) h
-
-    pub view-output-room : r .form ≡ Output → to + length (rowBytes image job ids r) ≤ length d → to + length (wholeBytes (between job (r .at) (r .at + 16)) (between job (r .at) (r .past))) ≤ length d
-    view-output-room e h = rw (output-bytes e) h
-
-    pub view-whole : {o : List ℕ} {past : ℕ} → r .form ≡ Whole → Put d to (between image (r .at) (r .past)) o past → Put d to (rowBytes image job ids r) o past
-    view-whole e p = put-same p (whole-bytes e)
-
-    pub view-output : {o : List ℕ} {past : ℕ} → r .form ≡ Output → Put d to (wholeBytes (between job (r .at) (r .at + 16)) (between job (r .at) (r .past))) o past → Put d to (rowBytes image job ids r) o past
-    view-output e p = put-same p (output-bytes e)
-
-    pub view-whole-same : {o : List ℕ} {past : ℕ} → r .form ≡ Whole → to + length (rowBytes image job ids r) ≤ length d → Put d to (between image (r .at) (r .past)) o past → length o ≡ length d
-    view-whole-same e h p = put-length (view-whole e p) h
-
-    pub view-output-same : {o : List ℕ} {past : ℕ} → r .form ≡ Output → to + length (rowBytes image job ids r) ≤ length d → Put d to (wholeBytes (between job (r .at) (r .at + 16)) (between job (r .at) (r .past))) o past → length o ≡ length d
-    view-output-same e h p = put-length (view-output e p) h
-
-    pub view-same : {o : List ℕ} {past : ℕ} → Put d to (rowBytes image job ids r) o past → to + length (rowBytes image job ids r) ≤ length d → length o ≡ length d
-    view-same p h = put-length p h
-
 pub ruleset cut-output-exits = (whole-order, cut-output-inside, cut-output-id, cut-output-ten, cut-output-start, cut-output-end, cut-output-id-room, cut-output-table-room, cut-output-range-room, cut-output-put, cut-output-same)
 
 pub ruleset cut-exits = (output-id, cut-inside, cut-id, cut-ten, cut-start, cut-end, cut-id-room, cut-table-room, cut-range-room, cut-put, cut-same)
 
-pub ruleset view-exits = (whole-inside, whole-order, output-id, output-inside, view-whole-room, view-output-room, view-whole, view-output, view-whole-same, view-output-same, view-same)
+pub ruleset view-exits = (whole-inside, whole-order, output-id, output-inside, whole-bytes, output-bytes, put-same, same-room, same-length, put-length)

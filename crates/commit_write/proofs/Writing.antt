@@ -102,9 +102,6 @@ module _ {image job ids t : List ℕ} (from n : ℕ) {d : List ℕ} {to : ℕ} {
   count-long : length (countFrom from n) ≡ n
   count-long = length-count from n
 
-  pub rows-same : length out ≡ length d
-  rows-same = writing-length p
-
   pub rows-put : n ≤ i → Put d to (viewBytes image job ids (viewRows from n t)) out past
   rows-put h = put-same (writing-all p (rw count-long h)) (sym (rows-bytes image job ids t from n))
 
@@ -131,16 +128,10 @@ module _ {image job ids t : List ℕ} (from n : ℕ) {d : List ℕ} {to : ℕ} {
       pub rows-more : {out′ : List ℕ} {past′ : ℕ} → Put out past (rowBytes image job ids r) out′ past′ → Writing image job ids t (countFrom from n) d to out′ (i + 1) past′
       rows-more u = writing-more p in-count number q u
 
-pub ruleset rows-exits = (rows-begin, rows-same, rows-put, rows-row, rows-fits, rows-inside, rows-room, rows-more)
+pub ruleset rows-exits = (rows-begin, writing-length, rows-put, rows-row, rows-fits, rows-inside, rows-room, rows-more)
 
 -- ---- put_in_order: the numbers are the first n of order
-pub order-begin : {image job ids t : List ℕ} (order : List ℕ) (n : ℕ) (d : List ℕ) (to : ℕ) → All (RowThere image job ids t) (take n order) → to + length (numberedBytes image job ids t (take n order)) ≤ length d → Writing image job ids t (take n order) d to d 0 to
-order-begin order n d to a h = writing-begin a h
-
 module _ {image job ids t : List ℕ} (order : List ℕ) (n : ℕ) {d : List ℕ} {to : ℕ} {out : List ℕ} {i past : ℕ} (p : Writing image job ids t (take n order) d to out i past) where
-  pub order-same : length out ≡ length d
-  order-same = writing-length p
-
   module _ (l : n ≤ length order) where
     order-long : length (take n order) ≡ n
     order-long = length-take-le n order l
@@ -171,4 +162,4 @@ module _ {image job ids t : List ℕ} (order : List ℕ) (n : ℕ) {d : List ℕ
         pub order-more : {out′ : List ℕ} {past′ : ℕ} → Put out past (rowBytes image job ids r) out′ past′ → Writing image job ids t (take n order) d to out′ (i + 1) past′
         order-more u = writing-more p in-take number-at q u
 
-pub ruleset order-exits = (order-begin, order-same, order-put, order-in, order-row, order-inside, order-room, order-more)
+pub ruleset order-exits = (writing-begin, writing-length, order-put, order-in, order-row, order-inside, order-room, order-more)

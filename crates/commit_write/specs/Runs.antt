@@ -59,10 +59,6 @@ planned (r ∷ rs) = r .rows + planned rs
 abbrev pub allRows : Counts → List ℕ → List ℕ → List Row
 allRows c runs rows = map rowOf (rowsIn 11 (c .outputs + planned (runsIn (c .runs) runs)) rows)
 
-abbrev pub runsWritten : List ℕ → List ℕ → List ℕ → List ℕ → List ℕ → Counts → List ℕ
-runsWritten image job ids runs rows c =
-    runsBytes image job ids (take (c .outputs) (allRows c runs rows)) (runsIn (c .runs) runs) (drop (c .outputs) (allRows c runs rows))
-
 abbrev pub plannedImage : List ℕ → List ℕ → List ℕ → List ℕ → List ℕ → Counts → List ℕ
 plannedImage image job ids runs rows c =
     newImageBytes image job ids (take (c .outputs) (allRows c runs rows)) (runsIn (c .runs) runs) (drop (c .outputs) (allRows c runs rows))
@@ -102,9 +98,6 @@ pub record Writable (image job ids runs rows order : List ℕ) (c : Counts) (out
   pub room : length (plannedImage image job ids runs rows c) ≤ length out
 
 -- ---- one run, whose rows begin at a row and whose bytes go to a place
-abbrev pub sourceAt : List ℕ → List ℕ → List ℕ → List ℕ → RunRow → Reached → List ℕ
-sourceAt image job ids rows r at = sourceBytes image job ids r (viewRows (at .row) (r .rows) rows)
-
 abbrev pub runAt : List ℕ → List ℕ → List ℕ → List ℕ → RunRow → Reached → List ℕ
 runAt image job ids rows r at = runBytes image job ids (viewRows 0 (at .outputs) rows) r (viewRows (at .row) (r .rows) rows)
 

@@ -1,6 +1,6 @@
 // The new image, run by run.
-use crate::destination::Chosen;
-use crate::destination::put_destination;
+use crate::destination::place_rows;
+use crate::rows::put_in_order;
 use crate::rows::put_rows;
 use crate::views::put_part;
 use commit_rows::RunKind;
@@ -9,10 +9,8 @@ ghost use mathlib.Core.Path.{_≡_};
 ghost use Prim.Native.Nat.{_≤_, _+_};
 ghost use lib.ListN.{length};
 ghost use Rattle.base.specs.Splice.{splice};
-ghost use Rattle.commit_rows.specs.declared.runs.RunKind.the-variants.{Destination};
 ghost use Rattle.commit_write.specs.Put.{Put};
-ghost use Rattle.commit_write.specs.Rows.{RowsThere};
-ghost use Rattle.commit_write.specs.Runs.{headBytes, sourceAt, runAt, runsWritten, plannedImage, Writable, RunWritable};
+ghost use Rattle.commit_write.specs.Runs.{headBytes, runAt, plannedImage, Writable, RunWritable};
 
 // How many runs there are, and how many outputs go into the destination.
 pub struct Counts {
@@ -37,49 +35,8 @@ fn put_head(out: &mut [u8], to: usize, id: usize, count: usize) -> usize
     to + 6
 }
 
-// A source: what is left of its views.
-fn put_source_run<'a>(
-    image: &'a [u8],
-    job: &'a [u8],
-    ids: &[u8],
-    rows: &[usize],
-    r: RunRow,
-    at: Reached,
-    out: &mut [u8],
-) -> usize
-    requires { ⌜ r .rows ≤ 1024 ⌝ ∗ ⌜ RowsThere (now image) (now job) (now ids) (now rows) (at .row) (r .rows) ⌝ }
-    requires { ⌜ at .to + length (sourceAt (now image) (now job) (now ids) (now rows) r at) ≤ length (now out) ⌝ }
-    ensures { λ z. ⌜ Put (now (out .entry)) (at .to) (sourceAt (now (image .entry)) (now (job .entry)) (now (ids .entry)) (now (rows .entry)) r at) (now (out .exit)) z ⌝ }
-{
-    let to = put_head(out, at.to, r.id, r.rows);
-    put_rows(image, job, ids, rows, at.row, r.rows, out, to)
-}
-
-// The destination: what is left of its views, and the outputs between them.
-fn put_destination_run<'a>(
-    image: &'a [u8],
-    job: &'a [u8],
-    ids: &[u8],
-    rows: &[usize],
-    order: &mut [usize],
-    r: RunRow,
-    at: Reached,
-    out: &mut [u8],
-) -> usize
-    requires { ⌜ RunWritable (now image) (now job) (now ids) (now rows) (now order) r at (now out) ⌝ ∗ ⌜ r .kind ≡ Destination ⌝ }
-    ensures { λ z. ⌜ Put (now (out .entry)) (at .to) (runAt (now (image .entry)) (now (job .entry)) (now (ids .entry)) (now (rows .entry)) r at) (now (out .exit)) z ⌝ }
-    ensures { λ z. ⌜ length (now (order .exit)) ≡ length (now (order .entry)) ⌝ }
-{
-    let to = put_head(out, at.to, r.id, at.outputs + r.rows);
-    let c = Chosen {
-        outputs: at.outputs,
-        from: at.row,
-        count: r.rows,
-    };
-    put_destination(image, job, ids, rows, order, c, out, to)
-}
-
-// A run; one that the commit leaves as it is in one copy.
+// A run: one that the commit leaves as it is in one copy, a source as what is left of its views, and the
+// destination as what is left of its views and the outputs between them.
 fn put_run<'a>(
     image: &'a [u8],
     job: &'a [u8],
@@ -97,44 +54,20 @@ fn put_run<'a>(
     let kind = r.kind;
     match kind {
         RunKind::Other => put_part(image, r.first - 6, r.past, out, at.to),
-        RunKind::Source => put_source_run(image, job, ids, rows, r, at, out),
-        RunKind::Destination => put_destination_run(image, job, ids, rows, order, r, at, out),
+        RunKind::Source => {
+            let to = put_head(out, at.to, r.id, r.rows);
+            put_rows(image, job, ids, rows, at.row, r.rows, out, to)
+        }
+        RunKind::Destination => {
+            let n = at.outputs + r.rows;
+            let to = put_head(out, at.to, r.id, n);
+            place_rows(rows, at.outputs, at.row, r.rows, order);
+            put_in_order(image, job, ids, rows, order, n, out, to)
+        }
     }
 }
 
-// The runs, one after another, past the byte with their number.
-fn put_runs<'a>(
-    image: &'a [u8],
-    job: &'a [u8],
-    ids: &[u8],
-    runs: &[usize],
-    rows: &[usize],
-    order: &mut [usize],
-    out: &mut [u8],
-    c: Counts,
-)
-    requires { ⌜ Writable (now image) (now job) (now ids) (now runs) (now rows) (now order) c (now out) ⌝ }
-    ensures { λ _. ⌜ now (out .exit) ≡ splice (now (out .entry)) 1 (runsWritten (now (image .entry)) (now (job .entry)) (now (ids .entry)) (now (runs .entry)) (now (rows .entry)) c) ⌝ }
-{
-    let n = c.runs;
-    let m = c.outputs;
-    let mut k = 0;
-    let mut row = m;
-    let mut to = 1;
-    while k < n {
-        let r = commit_rows::run_row(runs, k);
-        let at = Reached {
-            outputs: m,
-            row,
-            to,
-        };
-        to = put_run(image, job, ids, rows, order, r, at, out);
-        row += r.rows;
-        k += 1;
-    }
-}
-
-// The whole image: the number of runs, and the runs. The places of out past it stay.
+// The whole image: the number of runs, and the runs one after another. The places of out past it stay.
 pub fn put_image<'a>(
     image: &'a [u8],
     job: &'a [u8],
@@ -149,6 +82,20 @@ pub fn put_image<'a>(
     ensures { λ _. ⌜ now (out .exit) ≡ splice (now (out .entry)) 0 (plannedImage (now (image .entry)) (now (job .entry)) (now (ids .entry)) (now (runs .entry)) (now (rows .entry)) c) ⌝ }
 {
     let n = c.runs;
+    let m = c.outputs;
     format::put_number(out, 0, n as u64, 1);
-    put_runs(image, job, ids, runs, rows, order, out, c);
+    let mut k = 0;
+    let mut row = m;
+    let mut to = 1;
+    while k < n {
+        let r = commit_rows::run_row(runs, k);
+        let at = Reached {
+            outputs: m,
+            row,
+            to,
+        };
+        to = put_run(image, job, ids, rows, order, r, at, out);
+        row += r.rows;
+        k += 1;
+    }
 }

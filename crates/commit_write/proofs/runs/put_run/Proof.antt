@@ -17,14 +17,26 @@ put-part-requires c κs = search (needs, run-exits)
 enum-told-2 : tie.Need-enum-told-2
 enum-told-2 c = search (needs, run-exits)
 
-put-source-run-requires : tie.Need-put-source-run-requires
-put-source-run-requires c κs = search (needs, run-exits)
+put-head-requires : tie.Need-put-head-requires
+put-head-requires c κs = search (needs, run-exits)
+
+put-rows-requires : tie.Need-put-rows-requires
+put-rows-requires c κs = search (needs, run-exits)
 
 enum-told-3 : tie.Need-enum-told-3
 enum-told-3 c = search (needs, run-exits)
 
-put-destination-run-requires : tie.Need-put-destination-run-requires
-put-destination-run-requires c κs = search (needs, run-exits)
+add-n : tie.Need-add-n
+add-n c = search (needs, run-exits)
+
+put-head-requires-2 : tie.Need-put-head-requires-2
+put-head-requires-2 c κs = search (needs, run-exits)
+
+place-rows-requires : tie.Need-place-rows-requires
+place-rows-requires c κs = search (needs, run-exits)
+
+put-in-order-requires : tie.Need-put-in-order-requires
+put-in-order-requires c κs = search (needs, run-exits)
 
 same-length : tie.Need-same-length
 same-length c = search (needs, run-exits)
@@ -55,9 +67,13 @@ put-run-spec =
     sub-put-part
     put-part-requires
     enum-told-2
-    put-source-run-requires
+    put-head-requires
+    put-rows-requires
     enum-told-3
-    put-destination-run-requires
+    add-n
+    put-head-requires-2
+    place-rows-requires
+    put-in-order-requires
     same-length
     returns
     same-length-2
