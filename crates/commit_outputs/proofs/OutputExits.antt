@@ -36,7 +36,7 @@ use Rattle.commit_entries.specs.declared.Plan.{Plan}
 use Rattle.commit_entries.proofs.Planning.{planned-none, planned-whole, planned-cut}
 use Rattle.commit_entries.proofs.Standing.{table-stands, table-id, table-id-long, table-id-within}
 use Rattle.commit_entries.proofs.RowBytes.{cut-view-bytes, cut-entry-bytes, identity-bytes, new-id-bytes, range-length, cut-length, whole-length}
-use Rattle.commit_outputs.specs.Outputs.{IntervalHeld, entriesIn, insideAs, publishedAs, entriesAs, PlannedIn}
+use Rattle.commit_outputs.specs.Outputs.{IntervalHeld, entriesIn, publishedAs, entriesAs, PlannedIn}
 use Rattle.commit_outputs.specs.declared.output.Published.{Published}
 use Rattle.commit_outputs.specs.declared.output.Published.the-variants.{Left, Whole, Cut}
 
@@ -98,14 +98,7 @@ last-inside s t h = h .last
 
 pub ruleset ends-exits = (no-last, last-is, last-inside)
 
--- ---- inside_as and published_as
-module _ (iv : Interval) (t : Table) {c : Bool} (hc : c ≡ nonEmpty (overlap (own t) (toRange iv))) where
-  pub as-cut : c ≡ true → Cut ≡ insideAs iv t
-  as-cut w = rw (← hc, w)
-
-  pub as-left : c ≡ false → Left ≡ insideAs iv t
-  as-left w = rw (← hc, w)
-
+-- ---- published_as
 module _ (s : List ℕ) (t : TableSpan) (h : PartSpan) where
   pub as-completed : h .completed ≡ true → Whole ≡ publishedAs (openIn s h) (intervalIn s (h .start) (h .end)) (tableIn s t)
   unfolding publishedAs
@@ -116,15 +109,16 @@ module _ (s : List ℕ) (t : TableSpan) (h : PartSpan) where
     unfolding publishedAs
     as-whole q = rw (e, ← hb, q)
 
-    pub as-inside :
-        {p : Published}
-        → b ≡ true
-        → p ≡ insideAs (intervalIn s (h .start) (h .end)) (tableIn s t)
-        → p ≡ publishedAs (openIn s h) (intervalIn s (h .start) (h .end)) (tableIn s t)
-    unfolding publishedAs
-    as-inside q w = rw (e, ← hb, q) w
+    module _ (q : b ≡ true) {c : Bool} (hc : c ≡ nonEmpty (overlap (own (tableIn s t)) (toRange (intervalIn s (h .start) (h .end))))) where
+      pub as-cut : c ≡ true → Cut ≡ publishedAs (openIn s h) (intervalIn s (h .start) (h .end)) (tableIn s t)
+      unfolding publishedAs
+      as-cut w = rw (e, ← hb, q, ← hc, w)
 
-pub ruleset as-exits = (as-cut, as-left, as-completed, as-whole, as-inside, interval-end)
+      pub as-left : c ≡ false → Left ≡ publishedAs (openIn s h) (intervalIn s (h .start) (h .end)) (tableIn s t)
+      unfolding publishedAs
+      as-left w = rw (e, ← hb, q, ← hc, w)
+
+pub ruleset as-exits = (as-completed, as-whole, as-cut, as-left)
 
 -- ---- plan_output
 pub entries-are : (cutting : Option Key) (iv : Interval) (t : Table) → outputEntries cutting iv t ≡ entriesAs iv t (publishedAs cutting iv t)

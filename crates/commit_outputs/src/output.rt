@@ -23,7 +23,7 @@ ghost use Rattle.incremental_progress.specs.Intervals.{toRange};
 ghost use Rattle.incremental_progress.specs.Parts.{isKey};
 ghost use Rattle.commit_durable.specs.Tables.{intervalIn, openIn};
 ghost use Rattle.commit_entries.specs.Planned.{PlanReady};
-ghost use Rattle.commit_outputs.specs.Outputs.{IntervalHeld, insideAs, publishedAs, entriesIn, PlannedIn};
+ghost use Rattle.commit_outputs.specs.Outputs.{IntervalHeld, publishedAs, entriesIn, PlannedIn};
 
 // What is published of an output: nothing, all of it, or what lies in the interval.
 pub enum Published {
@@ -62,17 +62,6 @@ fn ends_at(job: &[u8], t: TableSpan, b: BoundSpan) -> bool
     false
 }
 
-// What is published of an output that ends at the last written key.
-fn inside_as(job: &[u8], t: TableSpan, h: PartSpan) -> Published
-    requires { ⌜ TableInside (now job) t ⌝ ∗ ⌜ IntervalHeld (now job) h ⌝ }
-    ensures { λ r. ⌜ r ≡ insideAs (intervalIn (now (job .entry)) (h .start) (h .end)) (tableIn (now (job .entry)) t) ⌝ }
-{
-    if some_inside(job, t, h) {
-        return Published::Cut;
-    }
-    Published::Left
-}
-
 // What is published of an output: if its part is not completed, the interval ends at the last written key, and the outputs
 // that end there are cut.
 fn published_as(job: &[u8], t: TableSpan, h: PartSpan) -> Published
@@ -83,7 +72,10 @@ fn published_as(job: &[u8], t: TableSpan, h: PartSpan) -> Published
         return Published::Whole;
     }
     if ends_at(job, t, h.end) {
-        return inside_as(job, t, h);
+        if some_inside(job, t, h) {
+            return Published::Cut;
+        }
+        return Published::Left;
     }
     Published::Whole
 }
