@@ -2,26 +2,24 @@
 -- Assumes nothing.
 use Prim.Native.Nat.{ℕ, zero, suc, _+_, _-_, _*_, _≤_, _<_}
 use native.Mathlib.Omega.{arith}
-use native.Mathlib.Numerals.{add-one}
-use mathlib.Core.Path.{_≡_, refl, sym, ap, subst, _∙_}
+use mathlib.Core.Path.{_≡_, refl, sym, ap, _∙_}
 use mathlib.Core.Bool.{true, false}
 use mathlib.Core.Option.{Option, none, some}
-use mathlib.Core.List.{List, [], _∷_, _++_, map, flatMap, append-nil, append-assoc}
-use lib.ListN.{length, take, drop, length-append, drop-of-length-le}
+use mathlib.Core.List.{List, [], _∷_, _++_, flatMap, append-nil, append-assoc}
+use lib.ListN.{length, take, drop, length-append}
 use lib.Seq.{take-all}
-use lib.Dec.{T}
 use Rattle.base.specs.Bytes.{Bytes}
 use Rattle.base.specs.Lists.{flatMap-append}
 use Rattle.records.specs.Form.{readMany}
-use Rattle.records.specs.Found.{isGot, valuesOf}
+use Rattle.records.specs.Found.{valuesOf}
 use Rattle.records.specs.Values.{Table, Part}
 use Rattle.records.specs.Layouts.{table}
 use Rattle.records.proofs.Forms.{readMany-length}
 use Rattle.incremental_progress.specs.Intervals.{Interval, listed}
-use Rattle.incremental_progress.specs.Parts.{durable, intervals, openKey}
-use Rattle.incremental_progress.specs.Entries.{Entry, outputEntries, partEntries}
+use Rattle.incremental_progress.specs.Parts.{durable, intervals}
+use Rattle.incremental_progress.specs.Entries.{Entry, partEntries}
 use Rattle.commit_rows.specs.declared.parts.PartSpan.{PartSpan}
-use Rattle.commit_durable.specs.Tables.{jobOf, intervalIn, openIn, PartHeld, PartsHold, PartFound}
+use Rattle.commit_durable.specs.Tables.{jobOf, intervalIn, PartHeld, PartsHold, PartFound}
 use Rattle.commit_entries.specs.Planned.{PlanReady, PlannedMore}
 use Rattle.commit_entries.specs.declared.Plan.{Plan}
 use Rattle.commit_entries.proofs.Planning.{planned-none, planned-then}
@@ -107,15 +105,6 @@ parts-begin s ids table-of n d l b h =
     }
 
 module _ {s ids table-of : List ℕ} {n : ℕ} {d : List ℕ} {k i : ℕ} {q : Plan} {t : List ℕ} (x : PartsSeen s ids table-of n d k i q t) where
-  pub parts-hold : PartsHold s n table-of
-  parts-hold = x .hold
-
-  pub parts-small : length s ≤ 262144
-  parts-small = x .small
-
-  pub parts-bytes : Bytes s
-  parts-bytes = x .bytes
-
   pub parts-same : length t ≡ length d
   parts-same = x .planned [] .same
 
@@ -188,4 +177,4 @@ module _ {s ids table-of : List ℕ} {n : ℕ} {d : List ℕ} {k i : ℕ} {q : P
   pub parts-bucket : k < n → i * 2 + 1 ≤ 129
   parts-bucket l = omega (arith, x .few, x .hold .most)
 
-pub ruleset parts-exits = (parts-begin, parts-hold, parts-small, parts-bytes, parts-same, parts-all, parts-interval, parts-there, parts-plan, parts-none, parts-more-same, parts-onward, parts-bucket)
+pub ruleset parts-exits = (parts-begin, parts-same, parts-all, parts-interval, parts-there, parts-plan, parts-none, parts-more-same, parts-onward, parts-bucket)
