@@ -1,18 +1,18 @@
 -- The exits of the functions that plan one run and count it.
 -- Assumes nothing.
-use Prim.Native.Nat.{ℕ, _+_, _-_, _*_, _≤_, _<_}
+use Prim.Native.Nat.{ℕ, _+_, _-_, _*_, _≤_}
 use native.Mathlib.Omega.{arith}
-use mathlib.Core.Path.{_≡_, refl, sym, ap, subst, _∙_}
+use mathlib.Core.Path.{_≡_, refl, sym, ap, _∙_}
 use mathlib.Core.Bool.{Bool, true, false, _&&_, _||_}
 use mathlib.Core.List.{List, [], map, flatMap}
 use lib.Dec.{leb, eqb}
-use lib.ListN.{length, drop}
+use lib.ListN.{drop}
 use mir.Val.{Fits}
 use mir.Syntax.{w64}
-use borrow.Author.Tests.{eq-eqb, ne-eqb, le-leb, lt-leb}
+use borrow.Author.Tests.{eq-eqb, ne-eqb}
 use Rattle.base.specs.Pick.{pick}
 use Rattle.base.specs.Splice.{splice}
-use Rattle.records.specs.Values.{View, Run, Job}
+use Rattle.records.specs.Values.{Run, Job}
 use Rattle.records.specs.Spans.{idsIn}
 use Rattle.manifest.specs.Checks.{has}
 use Rattle.commit_index.specs.declared.runs.IndexedRun.{IndexedRun}
@@ -22,14 +22,13 @@ use Rattle.incremental_progress.specs.Plans as plans
 use Rattle.commit_rows.specs.Numbers.{runNumbers}
 use Rattle.commit_rows.specs.declared.runs.RunKind.{RunKind}
 use Rattle.commit_rows.specs.declared.runs.RunKind.the-variants.{Other, Source, Destination}
-use Rattle.commit_durable.specs.Tables.{jobOf, jobGaps, GapsHold}
-use Rattle.commit_gaps.specs.Ordered.{GapsOrdered}
+use Rattle.commit_durable.specs.Tables.{jobOf, jobGaps}
 use Rattle.commit_entries.specs.Planned.{PlannedMore}
 use Rattle.commit_entries.specs.declared.Plan.{Plan}
 use Rattle.commit_entries.proofs.Planning.{planned-none}
 use Rattle.commit_plan.specs.Views.{gapBucket}
 use Rattle.commit_plan.specs.Runs.{viewsAt}
-use Rattle.commit_plan.specs.Plans.{HeadHeld, GapsReady, kindBy, runIn, runBuckets, RunPlannedMore, sizeBy, SizeReady, CountReady, RunCounted}
+use Rattle.commit_plan.specs.Plans.{HeadHeld, kindBy, runIn, runBuckets, RunPlannedMore, sizeBy, SizeReady, CountReady, RunCounted}
 use Rattle.commit_plan.specs.declared.plan.PlanHead.{PlanHead}
 use Rattle.commit_plan.specs.declared.plan.ImagePlan.{ImagePlan}
 use Rattle.commit_plan.specs.declared.plan.RunPlanned.{RunPlanned}
@@ -37,9 +36,6 @@ use Rattle.commit_plan.specs.declared.plan.RunSize.{RunSize}
 
 -- ---- kind_of
 module _ {s : List ℕ} {h : PlanHead} (p : HeadHeld s h) (n : ℕ) where
-  pub sources-inside : h .from + 4 * h .sources ≤ length s
-  sources-inside = p .sources-within
-
   pub is-destination : n ≡ h .destination → Destination ≡ kindBy (jobOf s) n
   is-destination e = rw (eq-eqb n (jobOf s .destination) (e ∙ p .destination))
 
@@ -53,7 +49,7 @@ module _ {s : List ℕ} {h : PlanHead} (p : HeadHeld s h) (n : ℕ) where
     pub is-other : b ≡ false → Other ≡ kindBy (jobOf s) n
     is-other q = let w : has n (jobOf s .sources) ≡ false = rw (← (p .sources), ← f) q in rw (not-destination, w)
 
-pub ruleset kind-exits = (sources-inside, is-destination, is-source, is-other)
+pub ruleset kind-exits = (is-destination, is-source, is-other)
 
 -- ---- plan_one
 other-draws : (j : Job) (r : Run) → Other ≡ kindBy j (r .id) → runDraws j r ≡ []
@@ -90,16 +86,6 @@ destination-kind j n = go (eqb n (j .destination)) (has n (j .sources))
     go false true e = refl
     go false false e = absurd (let z : _≡_ {A = ℕ} 0 1 = cc in omega (arith, z))
 
-module _ {s gap-table : List ℕ} {h : PlanHead} (g : GapsReady s gap-table h) where
-  pub one-small : length s ≤ 262144
-  one-small = g .small
-
-  pub one-hold : GapsHold s (h .gaps) gap-table
-  one-hold = g .hold
-
-  pub one-ordered : GapsOrdered s
-  one-ordered = g .ordered
-
 module _ (given s ids : List ℕ) (x : IndexedRun) (p : Plan) (d : List ℕ) {k : RunKind} (e : k ≡ kindBy (jobOf s) (x .id)) where
   pub one-other : k ≡ Other → RunPlannedMore given s ids x p d (record { kind = k; plan = p }) d
   one-other f =
@@ -118,19 +104,10 @@ module _ (given s ids : List ℕ) (x : IndexedRun) (p : Plan) (d : List ℕ) {k 
     pub one-destination : k ≡ Destination → RunPlannedMore given s ids x p d (record { kind = k; plan = q }) t
     one-destination f = cut-one (destination-kind (jobOf s) (x .id) (sym f ∙ e))
 
-pub ruleset one-exits = (one-small, one-hold, one-ordered, one-other, one-source, one-destination)
+pub ruleset one-exits = (one-other, one-source, one-destination)
 
 -- ---- run_size
 module _ {x : IndexedRun} {p q o : Plan} (y : SizeReady x p q o) where
-  pub size-rows : p .rows ≤ q .rows
-  size-rows = y .rows
-
-  pub size-bytes : p .bytes ≤ q .bytes
-  size-bytes = y .bytes
-
-  pub size-place : x .first ≤ x .past
-  size-place = y .place
-
   pub size-rows-fit : Fits w64 (q .rows - p .rows + o .rows)
   size-rows-fit = omega (arith, y .few, y .few-outputs)
 
@@ -147,7 +124,7 @@ module _ (k : RunKind) (x : IndexedRun) (p q o : Plan) where
   pub destination-size : k ≡ Destination → record { views = q .rows - p .rows + o .rows; bytes = q .bytes - p .bytes + o .bytes } ≡ sizeBy k x p q o
   destination-size e = rw e
 
-pub ruleset size-exits = (size-rows, size-bytes, size-place, size-rows-fit, size-bytes-fit, other-size, source-size, destination-size)
+pub ruleset size-exits = (size-rows-fit, size-bytes-fit, other-size, source-size, destination-size)
 
 -- ---- within
 module _ (b : Bool) (n : ℕ) where
@@ -166,12 +143,6 @@ size-short Source x p q o y h = omega (arith, y .few, y .short)
 size-short Destination x p q o y h = omega (arith, y .few, y .short, y .few-outputs, y .short-outputs)
 
 module _ {x : IndexedRun} {a : ImagePlan} {one : RunPlanned} {o : Plan} (y : CountReady x a one o) where
-  pub count-size : SizeReady x (a .plan) (one .plan) o
-  count-size = y .size
-
-  pub count-rows : a .plan .rows ≤ one .plan .rows
-  count-rows = y .size .rows
-
   pub count-head-fits : Fits w64 (a .bytes + 6)
   count-head-fits = omega (arith, y .bytes)
 
@@ -188,4 +159,4 @@ module _ {x : IndexedRun} {a : ImagePlan} {one : RunPlanned} {o : Plan} (y : Cou
         → RunCounted k x one a o d (record { plan = one .plan; outputs = a .outputs; bytes = a .bytes + 6 + z .bytes; fits = b }) t
     counted k d f g = record { is = rw (f, e); put = g }
 
-pub ruleset count-exits = (count-size, count-rows, count-head-fits, count-fits, counted)
+pub ruleset count-exits = (count-head-fits, count-fits, counted)

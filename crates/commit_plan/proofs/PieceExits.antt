@@ -2,7 +2,7 @@
 -- Assumes nothing.
 use Prim.Native.Nat.{ℕ, _+_, _-_, _*_, _≤_}
 use native.Mathlib.Omega.{arith}
-use mathlib.Core.Path.{_≡_, refl, sym, ap, ap₂, subst, _∙_}
+use mathlib.Core.Path.{_≡_, refl, sym, ap, ap₂, _∙_}
 use mathlib.Core.List.{List, [], _∷_}
 use lib.ListN.{length, take, drop}
 use Rattle.comparable_range.specs.Range.{Bound, Range, of, supplied}
@@ -12,21 +12,21 @@ use Rattle.format.specs.Range.{boundIn, rangeIn, BoundInside, writeRange}
 use Rattle.format.specs.declared.range.BoundSpan.{BoundSpan}
 use Rattle.format.specs.declared.span.RangeSpan.{RangeSpan}
 use Rattle.records.specs.Values.{View}
-use Rattle.records.specs.Layouts.{table, view}
+use Rattle.records.specs.Layouts.{view}
 use Rattle.records.specs.declared.ids.ViewId.{ViewId}
 use Rattle.manifest.specs.Ranges.{effective}
-use Rattle.incremental_progress.specs.Entries.{Entry, whole, cut, pieceEntry}
+use Rattle.incremental_progress.specs.Entries.{pieceEntry}
 use Rattle.commit_rows.specs.Bytes.{rowBytes, rowRange, rowLength}
 use Rattle.commit_rows.specs.declared.rows.Row.{Row}
 use Rattle.commit_gaps.specs.Found.{Inside, PieceIs}
 use Rattle.commit_gaps.specs.declared.piece.Piece.{Piece}
 use Rattle.commit_gaps.specs.declared.piece.Piece.the-variants.{Whole, Cut}
 use Rattle.commit_gaps.proofs.Uses.{whole-entry, cut-entry}
-use Rattle.commit_entries.specs.Planned.{RowSmall, PlanReady, Added, AddedCut, PlannedMore, WholeRow, CutRow}
+use Rattle.commit_entries.specs.Planned.{RowSmall, Added, AddedCut, PlannedMore, WholeRow, CutRow}
 use Rattle.commit_entries.specs.declared.Plan.{Plan}
 use Rattle.commit_entries.proofs.Planning.{planned-whole, planned-cut}
 use Rattle.commit_entries.proofs.RowBytes.{cut-view-bytes, cut-entry-bytes, new-id-bytes, range-length, cut-length}
-use Rattle.commit_plan.specs.Held.{viewAt, HeldAt, ViewReady}
+use Rattle.commit_plan.specs.Held.{viewAt, ViewReady}
 use Rattle.commit_plan.specs.Views.{RangeSmall, gapBucket, wholeRow, cutRow, PlannedPiece}
 use Rattle.commit_plan.specs.declared.held.ViewHeld.{ViewHeld}
 
@@ -147,10 +147,4 @@ module _ (s : List ℕ) (h : ViewHeld) (y : ViewReady s h) (gap : ℕ) where
       → PlannedPiece s ids h gap bounds x p d o t
   piece-cut-planned ids bounds p d {o} {t} {a = a} {b = b} e i w x job q j z = piece-cut bounds a b job j ids p d q i (rw e at z) (rw w at x)
 
-pub plan-few : {ids : List ℕ} {p : Plan} → PlanReady ids 1099511627776 p → p .rows ≤ 1099511627776
-plan-few y = y .few
-
-pub plan-short : {ids : List ℕ} {p : Plan} → PlanReady ids 1099511627776 p → p .bytes ≤ p .rows * 1048576
-plan-short y = y .short
-
-pub ruleset piece-exits = (piece-id, whole-small, cut-small, piece-whole, piece-cut-planned, plan-few, plan-short)
+pub ruleset piece-exits = (piece-id, whole-small, cut-small, piece-whole, piece-cut-planned)

@@ -4,21 +4,19 @@ use Prim.Native.Nat.{ℕ, _+_, _-_, _*_, _≤_, _<_}
 use native.Mathlib.Omega.{arith}
 use mathlib.Core.Path.{_≡_, refl, sym, ap, ap₂, subst, _∙_}
 use mathlib.Core.Bool.{Bool, true, false, _&&_}
-use mathlib.Core.List.{List, [], _∷_, _++_, map, flatMap, append-nil, append-assoc}
-use lib.Dec.{T, leb}
-use lib.ListN.{length, take, drop, length-append}
+use mathlib.Core.List.{List, [], _∷_, _++_, flatMap, append-nil, append-assoc}
+use lib.Dec.{leb}
+use lib.ListN.{length, take, length-append}
 use lib.Seq.{take-all, length-take-le}
 use mir.Val.{Fits}
 use mir.Syntax.{w64}
-use Rattle.base.specs.Bytes.{Bytes}
-use Rattle.base.specs.Lists.{All, flatMap-append}
+use Rattle.base.specs.Lists.{flatMap-append}
 use Rattle.base.specs.Pick.{and-first}
 use Rattle.base.specs.Rows.{RowsHold, hold-none, hold-more}
 use Rattle.base.specs.Splice.{splice, spliced-length}
-use Rattle.records.specs.Form.{readMany}
 use Rattle.records.specs.Found.{valuesOf}
-use Rattle.records.specs.Values.{View, Run, Image, Job}
-use Rattle.records.specs.Layouts.{view, run}
+use Rattle.records.specs.Values.{View, Run, Job}
+use Rattle.records.specs.Layouts.{run}
 use Rattle.records.proofs.RecordLayouts.{run-layout}
 use Rattle.manifest.specs.Checks.{all, tablePasses, ascend, starts, imageChecks}
 use Rattle.commit_index.specs.Index.{imageOf, IndexHold, IndexedFound}
@@ -30,7 +28,7 @@ use Rattle.incremental_progress.specs.Plans as plans
 use Rattle.incremental_progress.proofs.Checks.{all-each}
 use Rattle.incremental_progress.proofs.Plans.{length-more}
 use Rattle.incremental_progress.proofs.PlanBytes.{run-length}
-use Rattle.commit_rows.specs.Numbers.{runOf, runNumbers}
+use Rattle.commit_rows.specs.Numbers.{runNumbers}
 use Rattle.commit_rows.specs.declared.runs.RunKind.{RunKind}
 use Rattle.commit_rows.specs.declared.runs.RunKind.the-variants.{Other, Source, Destination}
 use Rattle.commit_rows.specs.declared.runs.RunRow.{RunRow}
@@ -42,7 +40,7 @@ use Rattle.commit_entries.specs.declared.Plan.{Plan}
 use Rattle.commit_entries.proofs.Standing.{Stands, stands}
 use Rattle.commit_outputs.specs.Outputs.{outputBuckets}
 use Rattle.commit_plan.specs.Runs.{viewsAt, RunReady}
-use Rattle.commit_plan.specs.Plans.{RunHeld, RunMade, runBuckets, drawBuckets, HeadHeld, GapsReady, ImagePassed, OutputsPlanned, kindBy, runIn, RunPlannedMore, sizeBy, SizeReady, CountReady, RunCounted, CommitPlanned}
+use Rattle.commit_plan.specs.Plans.{RunHeld, RunMade, runBuckets, HeadHeld, GapsReady, ImagePassed, OutputsPlanned, kindBy, runIn, RunPlannedMore, sizeBy, SizeReady, CountReady, RunCounted, CommitPlanned}
 use Rattle.commit_plan.specs.declared.plan.PlanHead.{PlanHead}
 use Rattle.commit_plan.specs.declared.plan.ImagePlan.{ImagePlan}
 use Rattle.commit_plan.specs.declared.plan.RunPlanned.{RunPlanned}
@@ -132,27 +130,6 @@ runs-begin given s ids gap-table index h runs rows i p q g o l =
     }
 
 module _ {given s ids gap-table index : List ℕ} {h : PlanHead} {o : Plan} {d e : List ℕ} {k : ℕ} {a : ImagePlan} {runs rows : List ℕ} (x : RunsSeen given s ids gap-table index h o d e k a runs rows) where
-  j : Job
-  j = jobOf s
-
-  i : Image
-  i = imageOf given
-
-  pub runs-hold : IndexHold given (h .runs) index
-  runs-hold = x .hold
-
-  pub runs-head : HeadHeld s h
-  runs-head = x .head
-
-  pub runs-gaps : GapsReady s gap-table h
-  runs-gaps = x .gaps
-
-  pub runs-same : length runs ≡ length d
-  runs-same = x .same-runs
-
-  pub runs-same-rows : length rows ≡ length e
-  runs-same-rows = x .same-rows
-
   pub runs-plan : PlanReady ids 274877906944 (a .plan)
   runs-plan = record { few = omega (arith, x .ready .few, x .upto, x .hold .most); few-cuts = x .ready .few-cuts; short = x .ready .short; within = x .ready .within }
 
@@ -176,9 +153,6 @@ module _ {given s ids gap-table index : List ℕ} {h : PlanHead} {o : Plan} {d e
     runs-room = omega (arith, x .hold .most, x .long)
 
     module _ {y : IndexedRun} (f : IndexedFound given k y) where
-      r : Run
-      r = f .run
-
       is-run : runIn given y ≡ f .run
       is-run = ap₂ (λ (n : ℕ) (vs : List View). record { id = n; views = vs }) (f .held .id) (ap valuesOf (f .held .views-are))
 
@@ -320,4 +294,4 @@ module _ {given s ids gap-table index : List ℕ} {h : PlanHead} {o : Plan} {d e
                 same-rows = runs-more-rows;
               })
 
-pub ruleset runs-exits = (runs-begin, runs-hold, runs-head, runs-gaps, runs-same, runs-same-rows, runs-plan, runs-all, runs-next, runs-room, runs-ready, runs-count, runs-more-rows, runs-more-same, runs-onward)
+pub ruleset runs-exits = (runs-begin, runs-plan, runs-all, runs-next, runs-room, runs-ready, runs-count, runs-more-rows, runs-more-same, runs-onward)

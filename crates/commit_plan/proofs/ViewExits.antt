@@ -1,19 +1,18 @@
 -- What the loop over a view's pieces keeps: those before a gap are planned.
 -- Assumes nothing.
-use Prim.Native.Nat.{ℕ, _+_, _-_, _*_, _≤_, _<_}
+use Prim.Native.Nat.{ℕ, _+_, _-_, _≤_, _<_}
 use native.Mathlib.Omega.{arith}
-use mathlib.Core.Path.{_≡_, refl, sym, ap, subst, _∙_}
+use mathlib.Core.Path.{_≡_, sym, subst, _∙_}
 use mathlib.Core.List.{List, [], _∷_, _++_, map, flatMap, append-nil, append-assoc}
-use lib.ListN.{length, take, drop, length-append, drop-of-length-le}
+use lib.ListN.{length, drop, length-append, drop-of-length-le}
 use Rattle.base.specs.Lists.{map-append}
-use Rattle.comparable_range.specs.Range.{Bound, Range}
-use Rattle.format.specs.Range.{rangeIn, boundIn, BoundInside}
+use Rattle.comparable_range.specs.Range.{Range}
+use Rattle.format.specs.Range.{rangeIn}
 use Rattle.format.specs.declared.span.RangeSpan.{RangeSpan}
-use Rattle.records.specs.Values.{View}
 use Rattle.manifest.specs.Ranges.{effective}
 use Rattle.manifest.specs.Laws.{StartsHeld}
 use Rattle.manifest.proofs.ViewRanges.{effective-start-is-held}
-use Rattle.incremental_progress.specs.Entries.{Entry, pieceEntry}
+use Rattle.incremental_progress.specs.Entries.{pieceEntry}
 use Rattle.incremental_progress.specs.Gaps.{pieces, gapEntries, gapsMet}
 use Rattle.commit_durable.specs.Tables.{jobGaps, GapsHold}
 use Rattle.commit_gaps.specs.Ordered.{GapsOrdered}
@@ -25,7 +24,7 @@ use Rattle.commit_gaps.proofs.Uses.{reached-pieces, reached-met}
 use Rattle.commit_entries.specs.Planned.{PlanReady, PlannedMore}
 use Rattle.commit_entries.specs.declared.Plan.{Plan}
 use Rattle.commit_entries.proofs.Planning.{planned-none, planned-then}
-use Rattle.commit_plan.specs.Held.{viewAt, HeldAt, ViewReady}
+use Rattle.commit_plan.specs.Held.{viewAt, ViewReady}
 use Rattle.commit_plan.specs.Views.{RangeSmall, gapBucket, PlannedPiece}
 use Rattle.commit_plan.specs.declared.held.ViewHeld.{ViewHeld}
 
@@ -87,18 +86,6 @@ module _ {image job ids gap-table : List ℕ} {m : ℕ} {h : ViewHeld} {p : Plan
   pub view-held : StartsHeld (rangeIn image (h .range .start) (h .range .end))
   view-held = rw (x .view .held .range-is) (effective-start-is-held (viewAt image (h .at)) (x .view .passes))
 
-  pub view-hold : GapsHold job m gap-table
-  view-hold = x .hold
-
-  pub view-ordered : GapsOrdered job
-  view-ordered = x .ordered
-
-  pub view-upto : g ≤ m
-  view-upto = x .upto
-
-  pub view-ready : ViewReady image h
-  view-ready = x .view
-
   pub view-plan : PlanReady ids 1099511627776 q
   view-plan =
       record {
@@ -107,9 +94,6 @@ module _ {image job ids gap-table : List ℕ} {m : ℕ} {h : ViewHeld} {p : Plan
         short = x .ready .short;
         within = x .ready .within;
       }
-
-  pub view-same : length t ≡ length d
-  view-same = x .planned .same
 
   ended : pieces (drop g (jobGaps job)) (shown image h) ≡ [] → gapsMet g (drop g (jobGaps job)) (shown image h) ≡ []
       → PlannedMore image job ids (gapEntries (jobGaps job) (viewAt image (h .at))) (map gapBucket (gapsMet 0 (jobGaps job) (shown image h))) p d q t
@@ -174,4 +158,4 @@ module _ {image job ids gap-table : List ℕ} {m : ℕ} {h : ViewHeld} {p : Plan
               ready = record { few = omega (arith, n, z .few); few-cuts = z .few-cuts; short = z .short; within = z .within };
             }
 
-pub ruleset view-exits = (view-begin, view-inside, view-held, view-hold, view-ordered, view-upto, view-ready, view-plan, view-same, view-all, view-none, view-gap, view-bounds, view-less, view-next, view-more-same, view-onward)
+pub ruleset view-exits = (view-begin, view-inside, view-held, view-plan, view-all, view-none, view-gap, view-bounds, view-less, view-next, view-more-same, view-onward)
