@@ -72,7 +72,7 @@ pub ruleset inside-exits = (own-first, own-last, inside-is)
 
 -- ---- ends_at
 module _ (s : List ℕ) (t : TableSpan) (b : BoundSpan) where
-  pub no-last : t .flagged ≡ false → false ≡ isKey (tableIn s t .last) (keyIn s (b .at) (b .len))
+  pub no-last : t .flagged ≡ false → t .flagged ≡ isKey (tableIn s t .last) (keyIn s (b .at) (b .len))
   unfolding isKey
   no-last e = rw e
 

@@ -51,15 +51,12 @@ fn ends_at(job: &[u8], t: TableSpan, b: BoundSpan) -> bool
     requires { ⌜ TableInside (now job) t ⌝ ∗ ⌜ BoundInside (now job) b ⌝ }
     ensures { λ r. ⌜ r ≡ isKey (tableIn (now (job .entry)) t .last) (keyIn (now (job .entry)) (b .at) (b .len)) ⌝ }
 {
-    if t.flagged {
-        let last = BoundSpan {
-            kind: Kind::Included,
-            at: t.last_at,
-            len: t.last_len,
-        };
-        return key::is_equal(key::cmp(format::key_of(job, last), format::key_of(job, b)));
-    }
-    false
+    let last = BoundSpan {
+        kind: Kind::Included,
+        at: t.last_at,
+        len: t.last_len,
+    };
+    t.flagged && key::is_equal(key::cmp(format::key_of(job, last), format::key_of(job, b)))
 }
 
 // What is published of an output: if its part is not completed, the interval ends at the last written key, and the outputs

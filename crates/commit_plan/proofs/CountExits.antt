@@ -20,7 +20,7 @@ use Rattle.incremental_progress.specs.Plans as plans
 use Rattle.commit_rows.specs.declared.runs.RunKind.the-variants.{Other, Source, Destination}
 use Rattle.commit_entries.specs.declared.Plan.{Plan}
 use Rattle.commit_entries.proofs.Planning.{bytes-append}
-use Rattle.commit_plan.specs.Plans.{kindBy, sizeBy}
+use Rattle.commit_plan.specs.Plans.{kindOf, sizeBy}
 use Rattle.commit_plan.proofs.RunExits.{entries-most}
 
 pub entries-append : (es fs : List Entry) → length (entryBytes (es ++ fs)) ≡ length (entryBytes es) + length (entryBytes fs)
@@ -55,7 +55,7 @@ module _ (j : Job) (r : Run) (x : IndexedRun) (p q o : Plan)
   size-bytes-by false true = omega (arith, bytes)
   size-bytes-by false false = omega (arith, long)
 
-  pub size-bytes-are : sizeBy (kindBy j (r .id)) x p q o .bytes ≡ viewsLength j r
+  pub size-bytes-are : sizeBy (kindOf j r) x p q o .bytes ≡ viewsLength j r
   unfolding viewsLength
   size-bytes-are = size-bytes-by (eqb (r .id) (j .destination)) (has (r .id) (j .sources))
 
@@ -66,6 +66,6 @@ module _ (j : Job) (r : Run) (x : IndexedRun) (p q o : Plan)
   size-views-by false true = omega (arith, rows)
   size-views-by false false = views
 
-  pub size-views-are : sizeBy (kindBy j (r .id)) x p q o .views ≡ viewCount j r
+  pub size-views-are : sizeBy (kindOf j r) x p q o .views ≡ viewCount j r
   unfolding viewCount
   size-views-are = size-views-by (eqb (r .id) (j .destination)) (has (r .id) (j .sources))

@@ -89,10 +89,11 @@ module _ (b : Bool) (n : ℕ) where
   pub none-fits : b ≡ false → b ≡ (b && leb n 1024)
   none-fits e = rw e
 
-size-short : (k : RunKind) (x : IndexedRun) (p q o : Plan) → SizeReady x p q o → x .past ≤ 262144 → sizeBy k x p q o .bytes ≤ 2305843009213693952
-size-short Other x p q o y h = omega (arith, y .place)
-size-short Source x p q o y h = omega (arith, y .few, y .short)
-size-short Destination x p q o y h = omega (arith, y .few, y .short, y .few-outputs, y .short-outputs)
+-- how large a run can become
+pub size-small : (k : RunKind) (x : IndexedRun) (p q o : Plan) → SizeReady x p q o → x .past ≤ 262144 → sizeBy k x p q o .bytes ≤ 2251799813685248
+size-small Other x p q o y h = omega (arith, y .place)
+size-small Source x p q o y h = omega (arith, y .few, y .short)
+size-small Destination x p q o y h = omega (arith, y .few, y .short, y .few-outputs, y .short-outputs)
 
 module _ {x : IndexedRun} {a : ImagePlan} {one : RunPlanned} {o : Plan} (y : CountReady x a one o) where
   pub count-head-fits : Fits w64 (a .bytes + 6)
@@ -102,7 +103,7 @@ module _ {x : IndexedRun} {a : ImagePlan} {one : RunPlanned} {o : Plan} (y : Cou
     pub count-fits : Fits w64 (a .bytes + 6 + z .bytes)
     count-fits =
         let w : z .bytes ≡ sizeBy (one .kind) x (a .plan) (one .plan) o .bytes = ap (λ (i : RunSize). i .bytes) e in
-        omega (arith, y .bytes, w, size-short (one .kind) x (a .plan) (one .plan) o (y .size) (y .small))
+        omega (arith, y .bytes, w, size-small (one .kind) x (a .plan) (one .plan) o (y .size) (y .small))
 
     pub counted :
         (k : ℕ) (d : List ℕ) {t : List ℕ} {b : Bool}

@@ -30,7 +30,6 @@ use Rattle.incremental_progress.proofs.Plans.{length-more}
 use Rattle.incremental_progress.proofs.PlanBytes.{run-length}
 use Rattle.commit_rows.specs.Numbers.{runNumbers}
 use Rattle.commit_rows.specs.declared.runs.RunKind.{RunKind}
-use Rattle.commit_rows.specs.declared.runs.RunKind.the-variants.{Other, Source, Destination}
 use Rattle.commit_rows.specs.declared.runs.RunRow.{RunRow}
 use Rattle.commit_rows.proofs.RowExits.{run-back}
 use Rattle.commit_durable.specs.Tables.{jobOf}
@@ -40,10 +39,11 @@ use Rattle.commit_entries.specs.declared.Plan.{Plan}
 use Rattle.commit_entries.proofs.Standing.{Stands, stands}
 use Rattle.commit_outputs.specs.Outputs.{outputBuckets}
 use Rattle.commit_plan.specs.Runs.{viewsAt, RunReady}
-use Rattle.commit_plan.specs.Plans.{RunHeld, RunMade, runBuckets, HeadHeld, GapsReady, ImagePassed, OutputsPlanned, kindBy, runIn, RunPlannedMore, sizeBy, SizeReady, CountReady, RunCounted, CommitPlanned}
+use Rattle.commit_plan.specs.Plans.{RunHeld, RunMade, runBuckets, HeadHeld, GapsReady, ImagePassed, OutputsPlanned, kindOf, runIn, RunPlannedMore, sizeBy, SizeReady, CountReady, RunCounted, CommitPlanned}
 use Rattle.commit_plan.specs.declared.plan.PlanHead.{PlanHead}
 use Rattle.commit_plan.specs.declared.plan.ImagePlan.{ImagePlan}
 use Rattle.commit_plan.specs.declared.plan.RunPlanned.{RunPlanned}
+use Rattle.commit_plan.proofs.OneExits.{size-small}
 use Rattle.commit_plan.proofs.CountExits.{entries-append, draws-most, size-bytes-are, size-views-are}
 
 -- ---- one run more
@@ -67,12 +67,6 @@ all-more f (q ∷ rs) r = rw (all-more f rs r) (go (f q))
     go : (b : Bool) → (b && (all f rs && f r)) ≡ ((b && all f rs) && f r)
     go true = refl
     go false = refl
-
--- how large a run can become
-size-small : (kind : RunKind) (y : IndexedRun) (p q o : Plan) → SizeReady y p q o → y .past ≤ 262144 → q .rows ≤ 8388608 → sizeBy kind y p q o .bytes ≤ 2251799813685248
-size-small Other y p q o z h m = omega (arith, z .place)
-size-small Source y p q o z h m = omega (arith, z .short)
-size-small Destination y p q o z h m = omega (arith, z .short, z .few-outputs, z .short-outputs)
 
 abbrev partsOf : List ℕ → List Entry
 partsOf s = flatMap partEntries (jobOf s .parts)
@@ -189,8 +183,8 @@ module _ {given s ids gap-table index : List ℕ} {h : PlanHead} {o : Plan} {d e
         more : PlannedMore given s ids (runDraws (jobOf s) (f .run)) (runBuckets (jobOf s) (f .run)) (a .plan) rows (one .plan) t
         more = subst (λ (q : Run). PlannedMore given s ids (runDraws (jobOf s) q) (runBuckets (jobOf s) q) (a .plan) rows (one .plan) t) is-run (w .more)
 
-        kind-is : one .kind ≡ kindBy (jobOf s) (f .run .id)
-        kind-is = w .kind ∙ ap (kindBy (jobOf s)) (f .held .id)
+        kind-is : one .kind ≡ kindOf (jobOf s) (f .run)
+        kind-is = w .kind ∙ ap (kindOf (jobOf s)) is-run
 
         now : Planned given s ids ((partsOf s ++ flatMap (runDraws (jobOf s)) (take k (imageOf given))) ++ runDraws (jobOf s) (f .run)) ((outputBuckets 0 (jobOf s .parts) ++ flatMap (runBuckets (jobOf s)) (take k (imageOf given))) ++ runBuckets (jobOf s) (f .run)) t (one .plan)
         now = more .more (partsOf s ++ flatMap (runDraws (jobOf s)) (take k (imageOf given))) (outputBuckets 0 (jobOf s .parts) ++ flatMap (runBuckets (jobOf s)) (take k (imageOf given))) (x .planned)
@@ -286,7 +280,7 @@ module _ {given s ids gap-table index : List ℕ} {h : PlanHead} {o : Plan} {d e
                 ready = record { few = omega (arith, ready-now .few, few-draws); few-cuts = ready-now .few-cuts; short = ready-now .short; within = ready-now .within };
                 outputs = x .outputs;
                 bytes = rw (more-runs, length-more, bytes-count) (omega (arith, x .bytes));
-                short = omega (arith, x .short, size-small (one .kind) y (a .plan) (one .plan) o size (omega (arith, f .held .past, x .passed .small)) (omega (arith, ready-now .few, few-draws, x .upto, x .hold .most)));
+                short = omega (arith, x .short, size-small (one .kind) y (a .plan) (one .plan) o size (omega (arith, f .held .past, x .passed .small)));
                 fits = rw (more-runs, all-more, views-count, x .fits);
                 made = rw (more-runs, put-row) (hold-more 6 (RunMade given (jobOf s)) (f .run) (runNumbers row) (x .made) refl (rw seen-long runs-room) made-row);
                 long = omega (arith, runs-more-same, x .same-runs, x .long);

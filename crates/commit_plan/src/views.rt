@@ -8,7 +8,6 @@ use commit_gaps::Piece;
 use commit_rows::Form;
 use commit_rows::Row;
 use comparable_range::Kind;
-use comparable_range::Side;
 use format::BoundSpan;
 use format::span;
 use format::span::RangeSpan;
