@@ -21,7 +21,7 @@ use Rattle.commit_rows.specs.declared.parts.PartSpan.{PartSpan}
 use Rattle.commit_durable.specs.Tables.{intervalIn, openIn}
 use Rattle.commit_entries.specs.Planned.{PlanReady}
 use Rattle.commit_entries.specs.declared.Plan.{Plan}
-use Rattle.commit_entries.proofs.Planning.{planned-none, planned-then}
+use Rattle.commit_entries.proofs.Planning.{planned-none, planned-then, ready-most}
 use Rattle.commit_outputs.specs.Outputs.{IntervalHeld, OutputsThere, entriesIn, publishedAs, entriesAs, PlannedIn}
 use Rattle.commit_outputs.specs.declared.output.Published.{Published}
 use Rattle.commit_outputs.specs.declared.output.Published.the-variants.{Left, Whole, Cut}
@@ -65,7 +65,7 @@ seen-begin s ids h b p d l y i o r =
       seen = [];
       walk = walk-begin (table .read) s (h .first) (h .outputs) (o .first) (o .there);
       planned = λ image. planned-none image s ids p d;
-      ready = record { few = omega (arith, r .few); few-cuts = r .few-cuts; short = r .short; within = r .within };
+      ready = ready-most r (omega (arith, r .few));
     }
 
 one-table : (s : List ℕ) (h : PartSpan) (ts : List Table) (t : Table) → flatMap (entriesIn s h) (ts ++ (t ∷ [])) ≡ flatMap (entriesIn s h) ts ++ entriesIn s h t
@@ -84,7 +84,7 @@ module _ {s ids : List ℕ} {h : PartSpan} {b : ℕ} {p : Plan} {d : List ℕ} {
     seen-here = walk-here (x .walk) l
 
     pub seen-ready : PlanReady ids 1099511627776 q
-    seen-ready = record { few = omega (arith, x .ready .few, x .few); few-cuts = x .ready .few-cuts; short = x .ready .short; within = x .ready .within }
+    seen-ready = ready-most (x .ready) (omega (arith, x .ready .few, x .few))
 
     module _ {o : TableSpan} (f : TableThere s (table .read (drop at s)) o) {r : Plan} {u : List ℕ} (g : PlannedIn s ids (entriesIn s h (tableIn s o)) b q t r u) where
       pub seen-more-same : length u ≡ length d
@@ -103,7 +103,7 @@ module _ {s ids : List ℕ} {h : PartSpan} {b : ℕ} {p : Plan} {d : List ℕ} {
             planned = λ image.
                 rw (one-table s h (x .seen) (tableIn s o), map-append (λ (e : Entry). b) (flatMap (entriesIn s h) (x .seen)) (entriesIn s h (tableIn s o)))
                 (planned-then image s ids (x .planned image) (g image));
-            ready = record { few = omega (arith, w .few, one-most s h (tableIn s o)); few-cuts = w .few-cuts; short = w .short; within = w .within };
+            ready = ready-most w (omega (arith, w .few, one-most s h (tableIn s o)));
           }
 
 pub ruleset part-exits = (seen-begin, seen-same, seen-all, seen-here, seen-ready, seen-more-same, seen-onward)

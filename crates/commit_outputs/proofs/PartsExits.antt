@@ -22,7 +22,7 @@ use Rattle.commit_rows.specs.declared.parts.PartSpan.{PartSpan}
 use Rattle.commit_durable.specs.Tables.{jobOf, intervalIn, PartHeld, PartsHold, PartFound}
 use Rattle.commit_entries.specs.Planned.{PlanReady, PlannedMore}
 use Rattle.commit_entries.specs.declared.Plan.{Plan}
-use Rattle.commit_entries.proofs.Planning.{planned-none, planned-then}
+use Rattle.commit_entries.proofs.Planning.{planned-none, planned-then, ready-most}
 use Rattle.commit_outputs.specs.Outputs.{IntervalHeld, OutputsThere, entriesIn, bucketed, PlannedIn, outputBucket, afterInterval, outputBuckets, noPlan, PlannedOutputs}
 use Rattle.commit_outputs.proofs.PartExits.{one-most}
 
@@ -113,7 +113,7 @@ module _ {s ids table-of : List ℕ} {n : ℕ} {d : List ℕ} {k i : ℕ} {q : P
       let e : take k (jobOf s .parts) ≡ jobOf s .parts = take-all k (jobOf s .parts) (omega (arith, x .hold .count)) in
       record {
         planned = λ image. rw e at (x .planned image);
-        ready = record { few = omega (arith, x .ready .few, x .upto, x .hold .most); few-cuts = x .ready .few-cuts; short = x .ready .short; within = x .ready .within };
+        ready = ready-most (x .ready) (omega (arith, x .ready .few, x .upto, x .hold .most));
       }
 
   module _ (l : k < n) {h : PartSpan} (f : PartFound s k h) where
@@ -127,7 +127,7 @@ module _ {s ids table-of : List ℕ} {n : ℕ} {d : List ℕ} {k i : ℕ} {q : P
     parts-there = record { first = f .held .first; few = f .held .few; there = rw (f .held .outputs-are) tt }
 
     pub parts-plan : PlanReady ids 549755813888 q
-    parts-plan = record { few = omega (arith, x .ready .few, x .upto, x .hold .most); few-cuts = x .ready .few-cuts; short = x .ready .short; within = x .ready .within }
+    parts-plan = ready-most (x .ready) (omega (arith, x .ready .few, x .upto, x .hold .most))
 
     pub parts-none : h .durable ≡ false → PartsSeen s ids table-of n d (k + 1) i q t
     parts-none e =
@@ -141,7 +141,7 @@ module _ {s ids table-of : List ℕ} {n : ℕ} {d : List ℕ} {k i : ℕ} {q : P
               (x .planned image);
           intervals-are = rw (more, intervals-more (take k (jobOf s .parts)) (f .part), no-interval (f .held) e) (omega (arith, x .intervals-are));
           few = omega (arith, x .few);
-          ready = record { few = omega (arith, x .ready .few); few-cuts = x .ready .few-cuts; short = x .ready .short; within = x .ready .within };
+          ready = ready-most (x .ready) (omega (arith, x .ready .few));
         }
 
     module _ (e : h .durable ≡ true) {o : Plan} {u : List ℕ}
@@ -165,13 +165,7 @@ module _ {s ids table-of : List ℕ} {n : ℕ} {d : List ℕ} {k i : ℕ} {q : P
                 (planned-then image s ids (x .planned image) (w image));
             intervals-are = rw (more, intervals-more (take k (jobOf s .parts)) (f .part), one-interval (f .held) e) (omega (arith, x .intervals-are));
             few = omega (arith, x .few);
-            ready =
-                record {
-                  few = omega (arith, z .few, few-entries s h (valuesOf (readMany (table .read) (h .outputs) (drop (h .first) s))), count, f .held .few);
-                  few-cuts = z .few-cuts;
-                  short = z .short;
-                  within = z .within;
-                };
+            ready = ready-most z (omega (arith, z .few, few-entries s h (valuesOf (readMany (table .read) (h .outputs) (drop (h .first) s))), count, f .held .few));
           }
 
   pub parts-bucket : k < n → i * 2 + 1 ≤ 129

@@ -31,7 +31,7 @@ use Rattle.commit_gaps.specs.Found.{Reached}
 use Rattle.commit_gaps.proofs.Uses.{still-behind}
 use Rattle.commit_entries.specs.Planned.{PlanReady, PlannedMore}
 use Rattle.commit_entries.specs.declared.Plan.{Plan}
-use Rattle.commit_entries.proofs.Planning.{planned-none, planned-then}
+use Rattle.commit_entries.proofs.Planning.{planned-none, planned-then, ready-most}
 use Rattle.commit_plan.specs.Held.{viewGot, viewAt, HeldAt, ViewReady}
 use Rattle.commit_plan.specs.Views.{gapBucket}
 use Rattle.commit_plan.specs.Runs.{viewsAt, RunReady}
@@ -96,7 +96,7 @@ run-begin image job ids gap-table m first n p d r l h o z =
       upto = omega arith;
       behind = λ c _. tt;
       planned = planned-none image job ids p d;
-      ready = record { few = omega (arith, z .few); few-cuts = z .few-cuts; short = z .short; within = z .within };
+      ready = ready-most z (omega (arith, z .few));
     }
 
 one-view : (gs : List Range) (ws : List View) (v : View) → flatMap (gapEntries gs) (ws ++ (v ∷ [])) ≡ flatMap (gapEntries gs) ws ++ gapEntries gs v
@@ -119,7 +119,7 @@ module _ {image job ids gap-table : List ℕ} {m first n : ℕ} {p : Plan} {d : 
     run-here = walk-here (x .walk) l
 
     pub run-plan : PlanReady ids 549755813888 q
-    run-plan = record { few = omega (arith, x .ready .few, x .run .most); few-cuts = x .ready .few-cuts; short = x .ready .short; within = x .ready .within }
+    run-plan = ready-most (x .ready) (omega (arith, x .ready .few, x .run .most))
 
     -- the view at this place, among all views of the run
     record Here : Type 0 where
@@ -179,13 +179,7 @@ module _ {image job ids gap-table : List ℕ} {m first n : ℕ} {p : Plan} {d : 
               upto = r .upto;
               behind = λ c a. still-behind (effective v .start) c (one-of (λ w. start w ≼ startCut c) (x .seen) v [] a) r;
               planned = rw (one-view (jobGaps job) (x .seen) v, one-met (jobGaps job) (x .seen) v) (planned-then image job ids (x .planned) y);
-              ready =
-                  record {
-                    few = omega (arith, z .few, entries-most (jobGaps job) (viewAt image (h .at)), x .hold .count, x .hold .most);
-                    few-cuts = z .few-cuts;
-                    short = z .short;
-                    within = z .within;
-                  };
+              ready = ready-most z (omega (arith, z .few, entries-most (jobGaps job) (viewAt image (h .at)), x .hold .count, x .hold .most));
             }
 
 pub ruleset run-exits = (run-begin, run-all, run-here, run-plan, run-behind, run-view, run-reached, run-more-same, run-onward)

@@ -36,6 +36,7 @@ use Rattle.commit_durable.specs.Tables.{jobOf}
 use Rattle.commit_gaps.proofs.Places.{take-more, all-at}
 use Rattle.commit_entries.specs.Planned.{PlanReady, Planned, PlannedMore}
 use Rattle.commit_entries.specs.declared.Plan.{Plan}
+use Rattle.commit_entries.proofs.Planning.{ready-most}
 use Rattle.commit_entries.proofs.Standing.{Stands, stands}
 use Rattle.commit_outputs.specs.Outputs.{outputBuckets}
 use Rattle.commit_plan.specs.Runs.{viewsAt, RunReady}
@@ -112,7 +113,7 @@ runs-begin given s ids gap-table index h runs rows i p q g o l =
       out-ready = o .ready;
       upto = omega arith;
       planned = rw (append-nil, append-nil) (o .planned);
-      ready = record { few = omega (arith, o .ready .few); few-cuts = o .ready .few-cuts; short = o .ready .short; within = o .ready .within };
+      ready = ready-most (o .ready) (omega (arith, o .ready .few));
       outputs = o .planned .count;
       bytes = refl;
       short = omega arith;
@@ -125,7 +126,7 @@ runs-begin given s ids gap-table index h runs rows i p q g o l =
 
 module _ {given s ids gap-table index : List ℕ} {h : PlanHead} {o : Plan} {d e : List ℕ} {k : ℕ} {a : ImagePlan} {runs rows : List ℕ} (x : RunsSeen given s ids gap-table index h o d e k a runs rows) where
   pub runs-plan : PlanReady ids 274877906944 (a .plan)
-  runs-plan = record { few = omega (arith, x .ready .few, x .upto, x .hold .most); few-cuts = x .ready .few-cuts; short = x .ready .short; within = x .ready .within }
+  runs-plan = ready-most (x .ready) (omega (arith, x .ready .few, x .upto, x .hold .most))
 
   pub runs-all : h .runs ≤ k → CommitPlanned given s ids rows runs a
   unfolding drawEntries imageLength
@@ -277,7 +278,7 @@ module _ {given s ids gap-table index : List ℕ} {h : PlanHead} {o : Plan} {d e
                 out-ready = x .out-ready;
                 upto = omega arith;
                 planned = rw (more-runs, v, w′) (rw (assoc, assoc′) at now);
-                ready = record { few = omega (arith, ready-now .few, few-draws); few-cuts = ready-now .few-cuts; short = ready-now .short; within = ready-now .within };
+                ready = ready-most ready-now (omega (arith, ready-now .few, few-draws));
                 outputs = x .outputs;
                 bytes = rw (more-runs, length-more, bytes-count) (omega (arith, x .bytes));
                 short = omega (arith, x .short, size-small (one .kind) y (a .plan) (one .plan) o size (omega (arith, f .held .past, x .passed .small)));

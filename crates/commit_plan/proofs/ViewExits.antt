@@ -23,7 +23,7 @@ use Rattle.commit_gaps.specs.declared.next.NextPiece.the-variants.{None, At}
 use Rattle.commit_gaps.proofs.Uses.{reached-pieces, reached-met}
 use Rattle.commit_entries.specs.Planned.{PlanReady, PlannedMore}
 use Rattle.commit_entries.specs.declared.Plan.{Plan}
-use Rattle.commit_entries.proofs.Planning.{planned-none, planned-then}
+use Rattle.commit_entries.proofs.Planning.{planned-none, planned-then, ready-most}
 use Rattle.commit_plan.specs.Held.{viewAt, ViewReady}
 use Rattle.commit_plan.specs.Views.{RangeSmall, gapBucket, PlannedPiece}
 use Rattle.commit_plan.specs.declared.held.ViewHeld.{ViewHeld}
@@ -76,7 +76,7 @@ view-begin image job ids gap-table m h p d y l k o r z =
       gaps-are = reached-met (shown image h) r k;
       planned = planned-none image job ids p d;
       few = omega arith;
-      ready = record { few = omega (arith, z .few); few-cuts = z .few-cuts; short = z .short; within = z .within };
+      ready = ready-most z (omega (arith, z .few));
     }
 
 module _ {image job ids gap-table : List ℕ} {m : ℕ} {h : ViewHeld} {p : Plan} {d : List ℕ} {g : ℕ} {q : Plan} {t : List ℕ} (x : ViewSeen image job ids gap-table m h p d g q t) where
@@ -87,13 +87,7 @@ module _ {image job ids gap-table : List ℕ} {m : ℕ} {h : ViewHeld} {p : Plan
   view-held = rw (x .view .held .range-is) (effective-start-is-held (viewAt image (h .at)) (x .view .passes))
 
   pub view-plan : PlanReady ids 1099511627776 q
-  view-plan =
-      record {
-        few = omega (arith, x .ready .few, x .few, x .upto, x .hold .most);
-        few-cuts = x .ready .few-cuts;
-        short = x .ready .short;
-        within = x .ready .within;
-      }
+  view-plan = ready-most (x .ready) (omega (arith, x .ready .few, x .few, x .upto, x .hold .most))
 
   ended : pieces (drop g (jobGaps job)) (shown image h) ≡ [] → gapsMet g (drop g (jobGaps job)) (shown image h) ≡ []
       → PlannedMore image job ids (gapEntries (jobGaps job) (viewAt image (h .at))) (map gapBucket (gapsMet 0 (jobGaps job) (shown image h))) p d q t
@@ -155,7 +149,7 @@ module _ {image job ids gap-table : List ℕ} {m : ℕ} {h : ViewHeld} {p : Plan
               gaps-are = x .gaps-are ∙ rw (at .gaps-are) (sym (append-assoc (x .met) (k ∷ []) (gapsMet next (drop next (jobGaps job)) (shown image h))));
               planned = rw (map-append (pieceEntry (viewAt image (h .at))) (x .done) (at .piece ∷ []), map-append gapBucket (x .met) (k ∷ [])) (planned-then image job ids (x .planned) one);
               few = omega (arith, n, x .few, at .from, at .onward);
-              ready = record { few = omega (arith, n, z .few); few-cuts = z .few-cuts; short = z .short; within = z .within };
+              ready = ready-most z (omega (arith, n, z .few));
             }
 
 pub ruleset view-exits = (view-begin, view-inside, view-held, view-plan, view-all, view-none, view-gap, view-bounds, view-less, view-next, view-more-same, view-onward)
