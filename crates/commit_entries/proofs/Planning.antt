@@ -28,6 +28,10 @@ use Rattle.commit_entries.specs.Planned.{KeptRow, PlanReady, Added, TenF
 use Rattle.commit_entries.specs.declared.Plan.{Plan}
 use Rattle.commit_entries.specs.declared.Ten as tens
 
+-- a plan with another bound for its rows
+pub ready-most : {ids : List ℕ} {n m : ℕ} {p : Plan} → PlanReady ids n p → p .rows ≤ m → PlanReady ids m p
+ready-most y h = record { few = h; few-cuts = y .few-cuts; short = y .short; within = y .within }
+
 -- ---- lists
 placed-more : (bs : List ℕ) (vs : List View) (b : ℕ) (v : View) → length bs ≡ length vs → placed (bs ++ (b ∷ [])) (vs ++ (v ∷ [])) ≡ placed bs vs ++ (record { gap = b; item = v } ∷ [])
 unfolding placed

@@ -1,6 +1,6 @@
 -- The exits of the functions that find what of an output is published, and plan it.
 -- Assumes nothing.
-use Prim.Native.Nat.{ℕ, _+_, _-_, _*_, _≤_}
+use Prim.Native.Nat.{ℕ, _+_, _-_, _≤_}
 use native.Mathlib.Omega.{arith}
 use mathlib.Core.Path.{_≡_, refl, sym, ap, _∙_}
 use mathlib.Core.Bool.{Bool, true, false}
@@ -31,12 +31,12 @@ use Rattle.commit_rows.specs.declared.parts.PartSpan.{PartSpan}
 use Rattle.commit_rows.specs.declared.rows.Form.the-variants.{Output, CutOutput}
 use Rattle.commit_rows.specs.declared.rows.Row.{Row}
 use Rattle.commit_durable.specs.Tables.{intervalIn, openIn}
-use Rattle.commit_entries.specs.Planned.{RowSmall, PlanReady, Added, AddedCut, WholeRow, CutRow}
+use Rattle.commit_entries.specs.Planned.{RowSmall, Added, AddedCut, WholeRow, CutRow}
 use Rattle.commit_entries.specs.declared.Plan.{Plan}
 use Rattle.commit_entries.proofs.Planning.{planned-none, planned-whole, planned-cut}
 use Rattle.commit_entries.proofs.Standing.{table-stands, table-id, table-id-long, table-id-within}
 use Rattle.commit_entries.proofs.RowBytes.{cut-view-bytes, cut-entry-bytes, identity-bytes, new-id-bytes, range-length, cut-length, whole-length}
-use Rattle.commit_outputs.specs.Outputs.{IntervalHeld, entriesIn, insideAs, publishedAs, entriesAs, PlannedIn}
+use Rattle.commit_outputs.specs.Outputs.{IntervalHeld, entriesIn, publishedAs, entriesAs, PlannedIn}
 use Rattle.commit_outputs.specs.declared.output.Published.{Published}
 use Rattle.commit_outputs.specs.declared.output.Published.the-variants.{Left, Whole, Cut}
 
@@ -52,12 +52,6 @@ own-is s t = go (t .flagged)
     go false = refl
 
 module _ (s : List ℕ) (t : TableSpan) (h : PartSpan) (i : IntervalHeld s h) where
-  pub interval-start : BoundInside s (h .start)
-  interval-start = i .start
-
-  pub interval-end : BoundInside s (h .end)
-  interval-end = i .end
-
   pub own-first : {a : BoundSpan} → TableInside s t → a ≡ firstSpan t → BoundInside s a
   own-first x e = rw e (x .first)
 
@@ -74,11 +68,11 @@ module _ (s : List ℕ) (t : TableSpan) (h : PartSpan) (i : IntervalHeld s h) wh
       let u : rangeIn s a b ≡ own (tableIn s t) = rw (e, f) (own-is s t) in
       g ∙ ap (λ q. nonEmpty (overlap q (rangeIn s (h .start) (h .end)))) u ∙ ap (λ q. nonEmpty (overlap (own (tableIn s t)) q)) (i .range)
 
-pub ruleset inside-exits = (interval-start, interval-end, own-first, own-last, inside-is)
+pub ruleset inside-exits = (own-first, own-last, inside-is)
 
 -- ---- ends_at
 module _ (s : List ℕ) (t : TableSpan) (b : BoundSpan) where
-  pub no-last : t .flagged ≡ false → false ≡ isKey (tableIn s t .last) (keyIn s (b .at) (b .len))
+  pub no-last : t .flagged ≡ false → t .flagged ≡ isKey (tableIn s t .last) (keyIn s (b .at) (b .len))
   unfolding isKey
   no-last e = rw e
 
@@ -93,19 +87,9 @@ module _ (s : List ℕ) (t : TableSpan) (b : BoundSpan) where
   unfolding isKey
   last-is e ex ey eo er = rw (e, ← ex, ← ey, ← eo) er
 
-pub last-inside : (s : List ℕ) (t : TableSpan) → TableInside s t → t .«last_at» + t .«last_len» ≤ length s
-last-inside s t h = h .last
+pub ruleset ends-exits = (no-last, last-is)
 
-pub ruleset ends-exits = (no-last, last-is, last-inside)
-
--- ---- inside_as and published_as
-module _ (iv : Interval) (t : Table) {c : Bool} (hc : c ≡ nonEmpty (overlap (own t) (toRange iv))) where
-  pub as-cut : c ≡ true → Cut ≡ insideAs iv t
-  as-cut w = rw (← hc, w)
-
-  pub as-left : c ≡ false → Left ≡ insideAs iv t
-  as-left w = rw (← hc, w)
-
+-- ---- published_as
 module _ (s : List ℕ) (t : TableSpan) (h : PartSpan) where
   pub as-completed : h .completed ≡ true → Whole ≡ publishedAs (openIn s h) (intervalIn s (h .start) (h .end)) (tableIn s t)
   unfolding publishedAs
@@ -116,15 +100,16 @@ module _ (s : List ℕ) (t : TableSpan) (h : PartSpan) where
     unfolding publishedAs
     as-whole q = rw (e, ← hb, q)
 
-    pub as-inside :
-        {p : Published}
-        → b ≡ true
-        → p ≡ insideAs (intervalIn s (h .start) (h .end)) (tableIn s t)
-        → p ≡ publishedAs (openIn s h) (intervalIn s (h .start) (h .end)) (tableIn s t)
-    unfolding publishedAs
-    as-inside q w = rw (e, ← hb, q) w
+    module _ (q : b ≡ true) {c : Bool} (hc : c ≡ nonEmpty (overlap (own (tableIn s t)) (toRange (intervalIn s (h .start) (h .end))))) where
+      pub as-cut : c ≡ true → Cut ≡ publishedAs (openIn s h) (intervalIn s (h .start) (h .end)) (tableIn s t)
+      unfolding publishedAs
+      as-cut w = rw (e, ← hb, q, ← hc, w)
 
-pub ruleset as-exits = (as-cut, as-left, as-completed, as-whole, as-inside, interval-end)
+      pub as-left : c ≡ false → Left ≡ publishedAs (openIn s h) (intervalIn s (h .start) (h .end)) (tableIn s t)
+      unfolding publishedAs
+      as-left w = rw (e, ← hb, q, ← hc, w)
+
+pub ruleset as-exits = (as-completed, as-whole, as-cut, as-left)
 
 -- ---- plan_output
 pub entries-are : (cutting : Option Key) (iv : Interval) (t : Table) → outputEntries cutting iv t ≡ entriesAs iv t (publishedAs cutting iv t)
@@ -149,9 +134,6 @@ abbrev cutRow : ℕ → ℕ → ℕ → PartSpan → Row
 cutRow bucket at past h = record { form = CutOutput; bucket = bucket; at = at; past = past; start = h .start; end = h .end; ten = 0 }
 
 module _ (s : List ℕ) (at : ℕ) (t : TableSpan) (small : length s ≤ 262144) (b : Bytes s) (l : at ≤ length s) (f : TableThere s (table .read (drop at s)) t) where
-  pub output-inside : TableInside s t
-  output-inside = f .inside
-
   pub output-small : (bucket : ℕ) → RowSmall (outputRow bucket at (t .past))
   output-small bucket = record { order = omega (arith, table-id-within s at b l f); past = omega (arith, f .inside .past); start = omega arith; end = omega arith }
 
@@ -217,10 +199,4 @@ module _ (s : List ℕ) (at : ℕ) (t : TableSpan) (small : length s ≤ 262144)
           rw (entries-by, w)
           (planned-cut image s ids (identity (tableIn s t)) (toRange (intervalIn s (h .start) (h .end))) bucket (cutRow bucket at (t .past) h) (cut-row image) p d q u (rw z at a))
 
-pub plan-few : {ids : List ℕ} {p : Plan} → PlanReady ids 1099511627776 p → p .rows ≤ 1099511627776
-plan-few y = y .few
-
-pub plan-short : {ids : List ℕ} {p : Plan} → PlanReady ids 1099511627776 p → p .bytes ≤ p .rows * 1048576
-plan-short y = y .short
-
-pub ruleset output-exits = (output-inside, output-small, output-id, cut-small, output-left, output-whole, output-cut, plan-few, plan-short)
+pub ruleset output-exits = (output-small, output-id, cut-small, output-left, output-whole, output-cut)

@@ -2,15 +2,12 @@
 -- Assumes nothing.
 use Prim.Native.Nat.{ℕ, _+_, _-_, _≤_, _<_}
 use native.Mathlib.Omega.{arith}
-use mathlib.Core.Path.{_≡_, refl, sym, ap, _∙_}
-use mathlib.Core.Bool.{true, false}
-use mathlib.Core.List.{List, [], _∷_, _++_, map, flatMap, append-nil}
+use mathlib.Core.Path.{_≡_, ap, _∙_}
+use mathlib.Core.List.{List, [], _∷_, _++_, flatMap, append-nil}
 use lib.ListN.{length, drop}
 use lib.Dec.{T}
 use Rattle.base.specs.Bytes.{Bytes}
 use Rattle.base.specs.Lists.{map-append, flatMap-append}
-use Rattle.key.specs.Order.{Key}
-use Rattle.format.specs.Got.{got}
 use Rattle.records.specs.Form.{readMany}
 use Rattle.records.specs.Found.{isGot, valuesOf}
 use Rattle.records.specs.Values.{Table}
@@ -22,10 +19,10 @@ use Rattle.records.proofs.Walk.{Walk, walk-begin, walk-all, walk-here, walk-onw
 use Rattle.incremental_progress.specs.Entries.{Entry}
 use Rattle.commit_rows.specs.declared.parts.PartSpan.{PartSpan}
 use Rattle.commit_durable.specs.Tables.{intervalIn, openIn}
-use Rattle.commit_entries.specs.Planned.{PlanReady, PlannedMore}
+use Rattle.commit_entries.specs.Planned.{PlanReady}
 use Rattle.commit_entries.specs.declared.Plan.{Plan}
-use Rattle.commit_entries.proofs.Planning.{planned-none, planned-then}
-use Rattle.commit_outputs.specs.Outputs.{IntervalHeld, OutputsThere, entriesIn, publishedAs, entriesAs, bucketed, PlannedIn}
+use Rattle.commit_entries.proofs.Planning.{planned-none, planned-then, ready-most}
+use Rattle.commit_outputs.specs.Outputs.{IntervalHeld, OutputsThere, entriesIn, publishedAs, entriesAs, PlannedIn}
 use Rattle.commit_outputs.specs.declared.output.Published.{Published}
 use Rattle.commit_outputs.specs.declared.output.Published.the-variants.{Left, Whole, Cut}
 use Rattle.commit_outputs.proofs.OutputExits.{entries-are}
@@ -68,7 +65,7 @@ seen-begin s ids h b p d l y i o r =
       seen = [];
       walk = walk-begin (table .read) s (h .first) (h .outputs) (o .first) (o .there);
       planned = λ image. planned-none image s ids p d;
-      ready = record { few = omega (arith, r .few); few-cuts = r .few-cuts; short = r .short; within = r .within };
+      ready = ready-most r (omega (arith, r .few));
     }
 
 one-table : (s : List ℕ) (h : PartSpan) (ts : List Table) (t : Table) → flatMap (entriesIn s h) (ts ++ (t ∷ [])) ≡ flatMap (entriesIn s h) ts ++ entriesIn s h t
@@ -76,18 +73,6 @@ unfolding flatMap
 one-table s h ts t = flatMap-append (entriesIn s h) ts (t ∷ []) ∙ ap (λ (l : List Entry). flatMap (entriesIn s h) ts ++ l) (append-nil (entriesIn s h t))
 
 module _ {s ids : List ℕ} {h : PartSpan} {b : ℕ} {p : Plan} {d : List ℕ} {k at : ℕ} {q : Plan} {t : List ℕ} (x : PartSeen s ids h b p d k at q t) where
-  pub seen-small : length s ≤ 262144
-  seen-small = x .small
-
-  pub seen-bytes : Bytes s
-  seen-bytes = x .bytes
-
-  pub seen-held : IntervalHeld s h
-  seen-held = x .held
-
-  pub seen-at : at ≤ length s
-  seen-at = x .walk .reading .within
-
   pub seen-same : length t ≡ length d
   seen-same = x .planned [] .same
 
@@ -99,7 +84,7 @@ module _ {s ids : List ℕ} {h : PartSpan} {b : ℕ} {p : Plan} {d : List ℕ} {
     seen-here = walk-here (x .walk) l
 
     pub seen-ready : PlanReady ids 1099511627776 q
-    seen-ready = record { few = omega (arith, x .ready .few, x .few); few-cuts = x .ready .few-cuts; short = x .ready .short; within = x .ready .within }
+    seen-ready = ready-most (x .ready) (omega (arith, x .ready .few, x .few))
 
     module _ {o : TableSpan} (f : TableThere s (table .read (drop at s)) o) {r : Plan} {u : List ℕ} (g : PlannedIn s ids (entriesIn s h (tableIn s o)) b q t r u) where
       pub seen-more-same : length u ≡ length d
@@ -118,7 +103,7 @@ module _ {s ids : List ℕ} {h : PartSpan} {b : ℕ} {p : Plan} {d : List ℕ} {
             planned = λ image.
                 rw (one-table s h (x .seen) (tableIn s o), map-append (λ (e : Entry). b) (flatMap (entriesIn s h) (x .seen)) (entriesIn s h (tableIn s o)))
                 (planned-then image s ids (x .planned image) (g image));
-            ready = record { few = omega (arith, w .few, one-most s h (tableIn s o)); few-cuts = w .few-cuts; short = w .short; within = w .within };
+            ready = ready-most w (omega (arith, w .few, one-most s h (tableIn s o)));
           }
 
-pub ruleset part-exits = (seen-begin, seen-small, seen-bytes, seen-held, seen-at, seen-same, seen-all, seen-here, seen-ready, seen-more-same, seen-onward)
+pub ruleset part-exits = (seen-begin, seen-same, seen-all, seen-here, seen-ready, seen-more-same, seen-onward)

@@ -2,29 +2,27 @@
 -- Assumes nothing.
 use Prim.Native.Nat.{ℕ, zero, suc, _+_, _-_, _*_, _≤_, _<_}
 use native.Mathlib.Omega.{arith}
-use native.Mathlib.Numerals.{add-one}
-use mathlib.Core.Path.{_≡_, refl, sym, ap, subst, _∙_}
+use mathlib.Core.Path.{_≡_, refl, sym, ap, _∙_}
 use mathlib.Core.Bool.{true, false}
 use mathlib.Core.Option.{Option, none, some}
-use mathlib.Core.List.{List, [], _∷_, _++_, map, flatMap, append-nil, append-assoc}
-use lib.ListN.{length, take, drop, length-append, drop-of-length-le}
+use mathlib.Core.List.{List, [], _∷_, _++_, flatMap, append-nil, append-assoc}
+use lib.ListN.{length, take, drop, length-append}
 use lib.Seq.{take-all}
-use lib.Dec.{T}
 use Rattle.base.specs.Bytes.{Bytes}
 use Rattle.base.specs.Lists.{flatMap-append}
 use Rattle.records.specs.Form.{readMany}
-use Rattle.records.specs.Found.{isGot, valuesOf}
+use Rattle.records.specs.Found.{valuesOf}
 use Rattle.records.specs.Values.{Table, Part}
 use Rattle.records.specs.Layouts.{table}
 use Rattle.records.proofs.Forms.{readMany-length}
 use Rattle.incremental_progress.specs.Intervals.{Interval, listed}
-use Rattle.incremental_progress.specs.Parts.{durable, intervals, openKey}
-use Rattle.incremental_progress.specs.Entries.{Entry, outputEntries, partEntries}
+use Rattle.incremental_progress.specs.Parts.{durable, intervals}
+use Rattle.incremental_progress.specs.Entries.{Entry, partEntries}
 use Rattle.commit_rows.specs.declared.parts.PartSpan.{PartSpan}
-use Rattle.commit_durable.specs.Tables.{jobOf, intervalIn, openIn, PartHeld, PartsHold, PartFound}
+use Rattle.commit_durable.specs.Tables.{jobOf, intervalIn, PartHeld, PartsHold, PartFound}
 use Rattle.commit_entries.specs.Planned.{PlanReady, PlannedMore}
 use Rattle.commit_entries.specs.declared.Plan.{Plan}
-use Rattle.commit_entries.proofs.Planning.{planned-none, planned-then}
+use Rattle.commit_entries.proofs.Planning.{planned-none, planned-then, ready-most}
 use Rattle.commit_outputs.specs.Outputs.{IntervalHeld, OutputsThere, entriesIn, bucketed, PlannedIn, outputBucket, afterInterval, outputBuckets, noPlan, PlannedOutputs}
 use Rattle.commit_outputs.proofs.PartExits.{one-most}
 
@@ -107,15 +105,6 @@ parts-begin s ids table-of n d l b h =
     }
 
 module _ {s ids table-of : List ℕ} {n : ℕ} {d : List ℕ} {k i : ℕ} {q : Plan} {t : List ℕ} (x : PartsSeen s ids table-of n d k i q t) where
-  pub parts-hold : PartsHold s n table-of
-  parts-hold = x .hold
-
-  pub parts-small : length s ≤ 262144
-  parts-small = x .small
-
-  pub parts-bytes : Bytes s
-  parts-bytes = x .bytes
-
   pub parts-same : length t ≡ length d
   parts-same = x .planned [] .same
 
@@ -124,7 +113,7 @@ module _ {s ids table-of : List ℕ} {n : ℕ} {d : List ℕ} {k i : ℕ} {q : P
       let e : take k (jobOf s .parts) ≡ jobOf s .parts = take-all k (jobOf s .parts) (omega (arith, x .hold .count)) in
       record {
         planned = λ image. rw e at (x .planned image);
-        ready = record { few = omega (arith, x .ready .few, x .upto, x .hold .most); few-cuts = x .ready .few-cuts; short = x .ready .short; within = x .ready .within };
+        ready = ready-most (x .ready) (omega (arith, x .ready .few, x .upto, x .hold .most));
       }
 
   module _ (l : k < n) {h : PartSpan} (f : PartFound s k h) where
@@ -138,7 +127,7 @@ module _ {s ids table-of : List ℕ} {n : ℕ} {d : List ℕ} {k i : ℕ} {q : P
     parts-there = record { first = f .held .first; few = f .held .few; there = rw (f .held .outputs-are) tt }
 
     pub parts-plan : PlanReady ids 549755813888 q
-    parts-plan = record { few = omega (arith, x .ready .few, x .upto, x .hold .most); few-cuts = x .ready .few-cuts; short = x .ready .short; within = x .ready .within }
+    parts-plan = ready-most (x .ready) (omega (arith, x .ready .few, x .upto, x .hold .most))
 
     pub parts-none : h .durable ≡ false → PartsSeen s ids table-of n d (k + 1) i q t
     parts-none e =
@@ -152,7 +141,7 @@ module _ {s ids table-of : List ℕ} {n : ℕ} {d : List ℕ} {k i : ℕ} {q : P
               (x .planned image);
           intervals-are = rw (more, intervals-more (take k (jobOf s .parts)) (f .part), no-interval (f .held) e) (omega (arith, x .intervals-are));
           few = omega (arith, x .few);
-          ready = record { few = omega (arith, x .ready .few); few-cuts = x .ready .few-cuts; short = x .ready .short; within = x .ready .within };
+          ready = ready-most (x .ready) (omega (arith, x .ready .few));
         }
 
     module _ (e : h .durable ≡ true) {o : Plan} {u : List ℕ}
@@ -176,16 +165,10 @@ module _ {s ids table-of : List ℕ} {n : ℕ} {d : List ℕ} {k i : ℕ} {q : P
                 (planned-then image s ids (x .planned image) (w image));
             intervals-are = rw (more, intervals-more (take k (jobOf s .parts)) (f .part), one-interval (f .held) e) (omega (arith, x .intervals-are));
             few = omega (arith, x .few);
-            ready =
-                record {
-                  few = omega (arith, z .few, few-entries s h (valuesOf (readMany (table .read) (h .outputs) (drop (h .first) s))), count, f .held .few);
-                  few-cuts = z .few-cuts;
-                  short = z .short;
-                  within = z .within;
-                };
+            ready = ready-most z (omega (arith, z .few, few-entries s h (valuesOf (readMany (table .read) (h .outputs) (drop (h .first) s))), count, f .held .few));
           }
 
   pub parts-bucket : k < n → i * 2 + 1 ≤ 129
   parts-bucket l = omega (arith, x .few, x .hold .most)
 
-pub ruleset parts-exits = (parts-begin, parts-hold, parts-small, parts-bytes, parts-same, parts-all, parts-interval, parts-there, parts-plan, parts-none, parts-more-same, parts-onward, parts-bucket)
+pub ruleset parts-exits = (parts-begin, parts-same, parts-all, parts-interval, parts-there, parts-plan, parts-none, parts-more-same, parts-onward, parts-bucket)

@@ -42,13 +42,9 @@ abbrev pub entriesIn : List ℕ → PartSpan → Table → List Entry
 entriesIn s h = outputEntries (openIn s h) (intervalIn s (h .start) (h .end))
 
 -- ---- the same by cases: `outputEntries` is `entriesAs` of `publishedAs`
--- of an output that ends at the key where outputs are cut
-abbrev pub insideAs : Interval → Table → Published
-insideAs iv t = pick (nonEmpty (overlap (own t) (toRange iv))) Cut Left
-
 unfoldable pub publishedAs : Option Key → Interval → Table → Published
 publishedAs none iv t = Whole
-publishedAs (some b) iv t = pick (isKey (t .last) b) (insideAs iv t) Whole
+publishedAs (some b) iv t = pick (isKey (t .last) b) (pick (nonEmpty (overlap (own t) (toRange iv))) Cut Left) Whole
 
 abbrev pub entriesAs : Interval → Table → Published → List Entry
 entriesAs iv t Left = []

@@ -10,8 +10,8 @@ use format::BoundSpan;
 use format::span::RangeSpan;
 use records::TableSpan;
 ghost use mathlib.Core.Path.{_≡_};
-ghost use Prim.Native.Nat.{_≤_, _+_};
-ghost use lib.ListN.{length, take, drop};
+ghost use Prim.Native.Nat.{_≤_};
+ghost use lib.ListN.{length, drop};
 ghost use Rattle.base.specs.Bytes.{Bytes};
 ghost use Rattle.comparable_range.specs.Range.{nonEmpty, overlap};
 ghost use Rattle.format.specs.Range.{BoundInside};
@@ -23,7 +23,7 @@ ghost use Rattle.incremental_progress.specs.Intervals.{toRange};
 ghost use Rattle.incremental_progress.specs.Parts.{isKey};
 ghost use Rattle.commit_durable.specs.Tables.{intervalIn, openIn};
 ghost use Rattle.commit_entries.specs.Planned.{PlanReady};
-ghost use Rattle.commit_outputs.specs.Outputs.{IntervalHeld, insideAs, publishedAs, entriesIn, PlannedIn};
+ghost use Rattle.commit_outputs.specs.Outputs.{IntervalHeld, publishedAs, entriesIn, PlannedIn};
 
 // What is published of an output: nothing, all of it, or what lies in the interval.
 pub enum Published {
@@ -51,26 +51,12 @@ fn ends_at(job: &[u8], t: TableSpan, b: BoundSpan) -> bool
     requires { ⌜ TableInside (now job) t ⌝ ∗ ⌜ BoundInside (now job) b ⌝ }
     ensures { λ r. ⌜ r ≡ isKey (tableIn (now (job .entry)) t .last) (keyIn (now (job .entry)) (b .at) (b .len)) ⌝ }
 {
-    if t.flagged {
-        let last = BoundSpan {
-            kind: Kind::Included,
-            at: t.last_at,
-            len: t.last_len,
-        };
-        return key::is_equal(key::cmp(format::key_of(job, last), format::key_of(job, b)));
-    }
-    false
-}
-
-// What is published of an output that ends at the last written key.
-fn inside_as(job: &[u8], t: TableSpan, h: PartSpan) -> Published
-    requires { ⌜ TableInside (now job) t ⌝ ∗ ⌜ IntervalHeld (now job) h ⌝ }
-    ensures { λ r. ⌜ r ≡ insideAs (intervalIn (now (job .entry)) (h .start) (h .end)) (tableIn (now (job .entry)) t) ⌝ }
-{
-    if some_inside(job, t, h) {
-        return Published::Cut;
-    }
-    Published::Left
+    let last = BoundSpan {
+        kind: Kind::Included,
+        at: t.last_at,
+        len: t.last_len,
+    };
+    t.flagged && key::is_equal(key::cmp(format::key_of(job, last), format::key_of(job, b)))
 }
 
 // What is published of an output: if its part is not completed, the interval ends at the last written key, and the outputs
@@ -83,7 +69,10 @@ fn published_as(job: &[u8], t: TableSpan, h: PartSpan) -> Published
         return Published::Whole;
     }
     if ends_at(job, t, h.end) {
-        return inside_as(job, t, h);
+        if some_inside(job, t, h) {
+            return Published::Cut;
+        }
+        return Published::Left;
     }
     Published::Whole
 }

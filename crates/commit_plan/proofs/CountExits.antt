@@ -1,8 +1,8 @@
 -- How large a run is afterwards, from the plans before and after it.
 -- Assumes nothing.
-use Prim.Native.Nat.{ℕ, _+_, _-_, _*_, _≤_}
+use Prim.Native.Nat.{_+_, _-_, _*_, _≤_}
 use native.Mathlib.Omega.{arith}
-use mathlib.Core.Path.{_≡_, refl, sym, ap, _∙_}
+use mathlib.Core.Path.{_≡_, ap, _∙_}
 use mathlib.Core.Bool.{Bool, true, false}
 use mathlib.Core.List.{List, [], _∷_, _++_, map, flatMap}
 use lib.Dec.{eqb}
@@ -10,20 +10,17 @@ use lib.ListN.{length, length-append}
 use Rattle.base.specs.Lists.{map-append}
 use Rattle.base.specs.Pick.{pick}
 use Rattle.comparable_range.specs.Range.{Range}
-use Rattle.records.specs.Form.{writeMany}
 use Rattle.records.specs.Values.{View, Run, Job}
-use Rattle.records.specs.Layouts.{view}
 use Rattle.manifest.specs.Checks.{has}
 use Rattle.commit_index.specs.declared.runs.IndexedRun.{IndexedRun}
 use Rattle.incremental_progress.specs.Entries.{Entry, entryView, partEntries}
 use Rattle.incremental_progress.specs.Gaps.{gapEntries}
-use Rattle.incremental_progress.specs.Plans.{byKind, isSourceOf, runDraws, viewCount, viewsLength, viewBytes, entryBytes}
+use Rattle.incremental_progress.specs.Plans.{isSourceOf, runDraws, viewCount, viewsLength, viewBytes, entryBytes}
 use Rattle.incremental_progress.specs.Plans as plans
 use Rattle.commit_rows.specs.declared.runs.RunKind.the-variants.{Other, Source, Destination}
 use Rattle.commit_entries.specs.declared.Plan.{Plan}
 use Rattle.commit_entries.proofs.Planning.{bytes-append}
-use Rattle.commit_plan.specs.Plans.{kindBy, sizeBy}
-use Rattle.commit_plan.specs.declared.plan.RunSize.{RunSize}
+use Rattle.commit_plan.specs.Plans.{kindOf, sizeBy}
 use Rattle.commit_plan.proofs.RunExits.{entries-most}
 
 pub entries-append : (es fs : List Entry) → length (entryBytes (es ++ fs)) ≡ length (entryBytes es) + length (entryBytes fs)
@@ -58,7 +55,7 @@ module _ (j : Job) (r : Run) (x : IndexedRun) (p q o : Plan)
   size-bytes-by false true = omega (arith, bytes)
   size-bytes-by false false = omega (arith, long)
 
-  pub size-bytes-are : sizeBy (kindBy j (r .id)) x p q o .bytes ≡ viewsLength j r
+  pub size-bytes-are : sizeBy (kindOf j r) x p q o .bytes ≡ viewsLength j r
   unfolding viewsLength
   size-bytes-are = size-bytes-by (eqb (r .id) (j .destination)) (has (r .id) (j .sources))
 
@@ -69,6 +66,6 @@ module _ (j : Job) (r : Run) (x : IndexedRun) (p q o : Plan)
   size-views-by false true = omega (arith, rows)
   size-views-by false false = views
 
-  pub size-views-are : sizeBy (kindBy j (r .id)) x p q o .views ≡ viewCount j r
+  pub size-views-are : sizeBy (kindOf j r) x p q o .views ≡ viewCount j r
   unfolding viewCount
   size-views-are = size-views-by (eqb (r .id) (j .destination)) (has (r .id) (j .sources))

@@ -5,15 +5,13 @@ use native.Mathlib.Omega.{arith}
 use mathlib.Core.Path.{_≡_, refl, sym, ap, subst, _∙_}
 use mathlib.Core.List.{List}
 use lib.ListN.{length, take, drop}
-use lib.Dec.{T}
 use Rattle.base.specs.Bytes.{Bytes}
 use Rattle.comparable_range.specs.Range.{Bound, Range}
-use Rattle.format.specs.Got.{Got, got}
-use Rattle.format.specs.Range.{boundIn, rangeIn, BoundInside}
+use Rattle.format.specs.Range.{boundIn}
 use Rattle.format.specs.declared.span.RangeSpan.{RangeSpan}
 use Rattle.records.specs.Values.{View}
 use Rattle.records.specs.Layouts.{table, view}
-use Rattle.records.specs.Spans.{tableIn, viewIn, ViewInside}
+use Rattle.records.specs.Spans.{viewIn}
 use Rattle.records.specs.There.{TableThere, ViewThere}
 use Rattle.records.specs.declared.views.ViewSpan.{ViewSpan}
 use Rattle.manifest.specs.Ranges.{effective}
@@ -28,13 +26,7 @@ module _ (s : List ℕ) (at : ℕ) {v : ViewSpan} (f : ViewThere s (view .read (
   view-is : viewAt s at ≡ viewIn s v
   view-is = ap viewGot (f .meaning)
 
-  pub held-inside : ViewInside s v
-  held-inside = f .inside
-
   module _ {r : RangeSpan} (e : EffectiveFound s v r) where
-    pub held-start : BoundInside s (r .start)
-    held-start = e .start
-
     start-is : boundIn s (r .start) ≡ effective (viewAt s at) .start
     start-is = ap (λ (q : Range). q .start) (e .meaning) ∙ ap (λ (w : View). effective w .start) (sym view-is)
 
@@ -67,4 +59,4 @@ module _ (s : List ℕ) (at : ℕ) {v : ViewSpan} (f : ViewThere s (view .read (
           end = e .end;
         }
 
-pub ruleset held-exits = (held-inside, held-start, held-behind, held-reached, held-at)
+pub ruleset held-exits = (held-behind, held-reached, held-at)

@@ -1,136 +1,68 @@
 -- The exits of the functions that plan one run and count it.
 -- Assumes nothing.
-use Prim.Native.Nat.{ℕ, _+_, _-_, _*_, _≤_, _<_}
+use Prim.Native.Nat.{ℕ, _+_, _-_, _*_, _≤_}
 use native.Mathlib.Omega.{arith}
-use mathlib.Core.Path.{_≡_, refl, sym, ap, subst, _∙_}
-use mathlib.Core.Bool.{Bool, true, false, _&&_, _||_}
+use mathlib.Core.Path.{_≡_, sym, ap, _∙_}
+use mathlib.Core.Bool.{Bool, true, false, _&&_}
 use mathlib.Core.List.{List, [], map, flatMap}
 use lib.Dec.{leb, eqb}
-use lib.ListN.{length, drop}
+use lib.ListN.{drop}
 use mir.Val.{Fits}
 use mir.Syntax.{w64}
-use borrow.Author.Tests.{eq-eqb, ne-eqb, le-leb, lt-leb}
-use Rattle.base.specs.Pick.{pick}
+use borrow.Author.Tests.{eq-eqb, ne-eqb}
 use Rattle.base.specs.Splice.{splice}
-use Rattle.records.specs.Values.{View, Run, Job}
 use Rattle.records.specs.Spans.{idsIn}
 use Rattle.manifest.specs.Checks.{has}
 use Rattle.commit_index.specs.declared.runs.IndexedRun.{IndexedRun}
 use Rattle.incremental_progress.specs.Gaps.{gapEntries, runGaps}
-use Rattle.incremental_progress.specs.Plans.{isSourceOf, runDraws}
+use Rattle.incremental_progress.specs.Plans.{runDraws}
 use Rattle.incremental_progress.specs.Plans as plans
 use Rattle.commit_rows.specs.Numbers.{runNumbers}
 use Rattle.commit_rows.specs.declared.runs.RunKind.{RunKind}
 use Rattle.commit_rows.specs.declared.runs.RunKind.the-variants.{Other, Source, Destination}
-use Rattle.commit_durable.specs.Tables.{jobOf, jobGaps, GapsHold}
-use Rattle.commit_gaps.specs.Ordered.{GapsOrdered}
+use Rattle.commit_durable.specs.Tables.{jobOf, jobGaps}
 use Rattle.commit_entries.specs.Planned.{PlannedMore}
 use Rattle.commit_entries.specs.declared.Plan.{Plan}
 use Rattle.commit_entries.proofs.Planning.{planned-none}
 use Rattle.commit_plan.specs.Views.{gapBucket}
 use Rattle.commit_plan.specs.Runs.{viewsAt}
-use Rattle.commit_plan.specs.Plans.{HeadHeld, GapsReady, kindBy, runIn, runBuckets, RunPlannedMore, sizeBy, SizeReady, CountReady, RunCounted}
+use Rattle.commit_plan.specs.Plans.{HeadHeld, runBuckets, RunPlannedMore, sizeBy, SizeReady, CountReady, RunCounted}
 use Rattle.commit_plan.specs.declared.plan.PlanHead.{PlanHead}
 use Rattle.commit_plan.specs.declared.plan.ImagePlan.{ImagePlan}
 use Rattle.commit_plan.specs.declared.plan.RunPlanned.{RunPlanned}
 use Rattle.commit_plan.specs.declared.plan.RunSize.{RunSize}
 
--- ---- kind_of
-module _ {s : List ℕ} {h : PlanHead} (p : HeadHeld s h) (n : ℕ) where
-  pub sources-inside : h .from + 4 * h .sources ≤ length s
-  sources-inside = p .sources-within
-
-  pub is-destination : n ≡ h .destination → Destination ≡ kindBy (jobOf s) n
-  is-destination e = rw (eq-eqb n (jobOf s .destination) (e ∙ p .destination))
-
-  module _ (e : n ≡ h .destination → ⊥) {b : Bool} (f : b ≡ has n (idsIn (h .sources) (drop (h .from) s))) where
-    not-destination : eqb n (jobOf s .destination) ≡ false
-    not-destination = ne-eqb n (jobOf s .destination) (λ q. e (q ∙ sym (p .destination)))
-
-    pub is-source : b ≡ true → Source ≡ kindBy (jobOf s) n
-    is-source q = let w : has n (jobOf s .sources) ≡ true = rw (← (p .sources), ← f) q in rw (not-destination, w)
-
-    pub is-other : b ≡ false → Other ≡ kindBy (jobOf s) n
-    is-other q = let w : has n (jobOf s .sources) ≡ false = rw (← (p .sources), ← f) q in rw (not-destination, w)
-
-pub ruleset kind-exits = (sources-inside, is-destination, is-source, is-other)
-
 -- ---- plan_one
-other-draws : (j : Job) (r : Run) → Other ≡ kindBy j (r .id) → runDraws j r ≡ []
-unfolding runDraws
-other-draws j r = go (eqb (r .id) (j .destination)) (has (r .id) (j .sources))
-  where
-    go : (a b : Bool) → Other ≡ pick a Destination (pick b Source Other) → pick (a || b) (flatMap (gapEntries (plans.jobGaps j)) (r .views)) [] ≡ []
-    go true b e = absurd (let z : _≡_ {A = ℕ} 0 1 = cc in omega (arith, z))
-    go false true e = absurd (let z : _≡_ {A = ℕ} 0 1 = cc in omega (arith, z))
-    go false false e = refl
-
-other-buckets : (j : Job) (r : Run) → Other ≡ kindBy j (r .id) → runBuckets j r ≡ []
-unfolding runBuckets
-other-buckets j r = go (eqb (r .id) (j .destination)) (has (r .id) (j .sources))
-  where
-    go : (a b : Bool) → Other ≡ pick a Destination (pick b Source Other) → pick (a || b) (map gapBucket (runGaps (plans.jobGaps j) (r .views))) [] ≡ []
-    go true b e = absurd (let z : _≡_ {A = ℕ} 0 1 = cc in omega (arith, z))
-    go false true e = absurd (let z : _≡_ {A = ℕ} 0 1 = cc in omega (arith, z))
-    go false false e = refl
-
-source-kind : (j : Job) (n : ℕ) → Source ≡ kindBy j n → isSourceOf j n ≡ true
-source-kind j n = go (eqb n (j .destination)) (has n (j .sources))
-  where
-    go : (a b : Bool) → Source ≡ pick a Destination (pick b Source Other) → (a || b) ≡ true
-    go true b e = refl
-    go false true e = refl
-    go false false e = absurd (let z : _≡_ {A = ℕ} 0 1 = cc in omega (arith, z))
-
-destination-kind : (j : Job) (n : ℕ) → Destination ≡ kindBy j n → isSourceOf j n ≡ true
-destination-kind j n = go (eqb n (j .destination)) (has n (j .sources))
-  where
-    go : (a b : Bool) → Destination ≡ pick a Destination (pick b Source Other) → (a || b) ≡ true
-    go true b e = refl
-    go false true e = refl
-    go false false e = absurd (let z : _≡_ {A = ℕ} 0 1 = cc in omega (arith, z))
-
-module _ {s gap-table : List ℕ} {h : PlanHead} (g : GapsReady s gap-table h) where
-  pub one-small : length s ≤ 262144
-  one-small = g .small
-
-  pub one-hold : GapsHold s (h .gaps) gap-table
-  one-hold = g .hold
-
-  pub one-ordered : GapsOrdered s
-  one-ordered = g .ordered
-
-module _ (given s ids : List ℕ) (x : IndexedRun) (p : Plan) (d : List ℕ) {k : RunKind} (e : k ≡ kindBy (jobOf s) (x .id)) where
-  pub one-other : k ≡ Other → RunPlannedMore given s ids x p d (record { kind = k; plan = p }) d
-  one-other f =
-      let z : Other ≡ kindBy (jobOf s) (x .id) = sym f ∙ e in
-      record { kind = e; more = rw (other-draws (jobOf s) (runIn given x) z, other-buckets (jobOf s) (runIn given x) z) (planned-none given s ids p d) }
-
+module _ {s : List ℕ} {h : PlanHead} (p : HeadHeld s h) (given ids : List ℕ) (x : IndexedRun) (o : Plan) (d : List ℕ) where
   module _ {q : Plan} {t : List ℕ}
-      (w : PlannedMore given s ids (flatMap (gapEntries (jobGaps s)) (viewsAt given (x .first) (x .views))) (map gapBucket (runGaps (jobGaps s) (viewsAt given (x .first) (x .views)))) p d q t) where
-    cut-one : isSourceOf (jobOf s) (x .id) ≡ true → RunPlannedMore given s ids x p d (record { kind = k; plan = q }) t
+      (w : PlannedMore given s ids (flatMap (gapEntries (jobGaps s)) (viewsAt given (x .first) (x .views))) (map gapBucket (runGaps (jobGaps s) (viewsAt given (x .first) (x .views)))) o d q t) where
+    pub one-destination : x .id ≡ h .destination → RunPlannedMore given s ids x o d (record { kind = Destination; plan = q }) t
     unfolding runDraws runBuckets
-    cut-one z = record { kind = e; more = rw z w }
+    one-destination e = let z : eqb (x .id) (jobOf s .destination) ≡ true = eq-eqb (x .id) (jobOf s .destination) (e ∙ p .destination) in record { kind = rw z; more = rw z w }
 
-    pub one-source : k ≡ Source → RunPlannedMore given s ids x p d (record { kind = k; plan = q }) t
-    one-source f = cut-one (source-kind (jobOf s) (x .id) (sym f ∙ e))
+  module _ (e : x .id ≡ h .destination → ⊥) {b : Bool} (f : b ≡ has (x .id) (idsIn (h .sources) (drop (h .from) s))) where
+    no-destination : eqb (x .id) (jobOf s .destination) ≡ false
+    no-destination = ne-eqb (x .id) (jobOf s .destination) (λ q. e (q ∙ sym (p .destination)))
 
-    pub one-destination : k ≡ Destination → RunPlannedMore given s ids x p d (record { kind = k; plan = q }) t
-    one-destination f = cut-one (destination-kind (jobOf s) (x .id) (sym f ∙ e))
+    by-sources : {c : Bool} → b ≡ c → has (x .id) (jobOf s .sources) ≡ c
+    by-sources q = rw (← (p .sources), ← f) q
 
-pub ruleset one-exits = (one-small, one-hold, one-ordered, one-other, one-source, one-destination)
+    pub one-other : b ≡ false → RunPlannedMore given s ids x o d (record { kind = Other; plan = o }) d
+    unfolding runDraws runBuckets
+    one-other q = record { kind = rw (no-destination, by-sources q); more = rw (no-destination, by-sources q) (planned-none given s ids o d) }
+
+    pub one-source :
+        {q : Plan} {t : List ℕ}
+        → b ≡ true
+        → PlannedMore given s ids (flatMap (gapEntries (jobGaps s)) (viewsAt given (x .first) (x .views))) (map gapBucket (runGaps (jobGaps s) (viewsAt given (x .first) (x .views)))) o d q t
+        → RunPlannedMore given s ids x o d (record { kind = Source; plan = q }) t
+    unfolding runDraws runBuckets
+    one-source q w = record { kind = rw (no-destination, by-sources q); more = rw (no-destination, by-sources q) w }
+
+pub ruleset one-exits = (one-destination, one-other, one-source)
 
 -- ---- run_size
 module _ {x : IndexedRun} {p q o : Plan} (y : SizeReady x p q o) where
-  pub size-rows : p .rows ≤ q .rows
-  size-rows = y .rows
-
-  pub size-bytes : p .bytes ≤ q .bytes
-  size-bytes = y .bytes
-
-  pub size-place : x .first ≤ x .past
-  size-place = y .place
-
   pub size-rows-fit : Fits w64 (q .rows - p .rows + o .rows)
   size-rows-fit = omega (arith, y .few, y .few-outputs)
 
@@ -147,31 +79,23 @@ module _ (k : RunKind) (x : IndexedRun) (p q o : Plan) where
   pub destination-size : k ≡ Destination → record { views = q .rows - p .rows + o .rows; bytes = q .bytes - p .bytes + o .bytes } ≡ sizeBy k x p q o
   destination-size e = rw e
 
-pub ruleset size-exits = (size-rows, size-bytes, size-place, size-rows-fit, size-bytes-fit, other-size, source-size, destination-size)
+pub ruleset size-exits = (size-rows-fit, size-bytes-fit, other-size, source-size, destination-size)
 
--- ---- within
+-- ---- count_run
 module _ (b : Bool) (n : ℕ) where
   pub both-fit : {c : Bool} → b ≡ true → c ≡ leb n 1024 → c ≡ (b && leb n 1024)
   both-fit e f = f ∙ rw e
 
-  pub none-fits : b ≡ false → false ≡ (b && leb n 1024)
+  pub none-fits : b ≡ false → b ≡ (b && leb n 1024)
   none-fits e = rw e
 
-pub ruleset within-exits = (both-fit, none-fits)
-
--- ---- count_run
-size-short : (k : RunKind) (x : IndexedRun) (p q o : Plan) → SizeReady x p q o → x .past ≤ 262144 → sizeBy k x p q o .bytes ≤ 2305843009213693952
-size-short Other x p q o y h = omega (arith, y .place)
-size-short Source x p q o y h = omega (arith, y .few, y .short)
-size-short Destination x p q o y h = omega (arith, y .few, y .short, y .few-outputs, y .short-outputs)
+-- how large a run can become
+pub size-small : (k : RunKind) (x : IndexedRun) (p q o : Plan) → SizeReady x p q o → x .past ≤ 262144 → sizeBy k x p q o .bytes ≤ 2251799813685248
+size-small Other x p q o y h = omega (arith, y .place)
+size-small Source x p q o y h = omega (arith, y .few, y .short)
+size-small Destination x p q o y h = omega (arith, y .few, y .short, y .few-outputs, y .short-outputs)
 
 module _ {x : IndexedRun} {a : ImagePlan} {one : RunPlanned} {o : Plan} (y : CountReady x a one o) where
-  pub count-size : SizeReady x (a .plan) (one .plan) o
-  count-size = y .size
-
-  pub count-rows : a .plan .rows ≤ one .plan .rows
-  count-rows = y .size .rows
-
   pub count-head-fits : Fits w64 (a .bytes + 6)
   count-head-fits = omega (arith, y .bytes)
 
@@ -179,7 +103,7 @@ module _ {x : IndexedRun} {a : ImagePlan} {one : RunPlanned} {o : Plan} (y : Cou
     pub count-fits : Fits w64 (a .bytes + 6 + z .bytes)
     count-fits =
         let w : z .bytes ≡ sizeBy (one .kind) x (a .plan) (one .plan) o .bytes = ap (λ (i : RunSize). i .bytes) e in
-        omega (arith, y .bytes, w, size-short (one .kind) x (a .plan) (one .plan) o (y .size) (y .small))
+        omega (arith, y .bytes, w, size-small (one .kind) x (a .plan) (one .plan) o (y .size) (y .small))
 
     pub counted :
         (k : ℕ) (d : List ℕ) {t : List ℕ} {b : Bool}
@@ -188,4 +112,4 @@ module _ {x : IndexedRun} {a : ImagePlan} {one : RunPlanned} {o : Plan} (y : Cou
         → RunCounted k x one a o d (record { plan = one .plan; outputs = a .outputs; bytes = a .bytes + 6 + z .bytes; fits = b }) t
     counted k d f g = record { is = rw (f, e); put = g }
 
-pub ruleset count-exits = (count-size, count-rows, count-head-fits, count-fits, counted)
+pub ruleset count-exits = (both-fit, none-fits, count-head-fits, count-fits, counted)

@@ -1,44 +1,46 @@
 -- The exits of the functions that plan one piece of a view.
 -- Assumes nothing.
-use Prim.Native.Nat.{ℕ, _+_, _-_, _*_, _≤_}
+use Prim.Native.Nat.{ℕ, _+_, _-_, _≤_}
 use native.Mathlib.Omega.{arith}
-use mathlib.Core.Path.{_≡_, refl, sym, ap, ap₂, subst, _∙_}
+use mathlib.Core.Path.{_≡_, refl, sym, ap, ap₂, _∙_}
 use mathlib.Core.List.{List, [], _∷_}
 use lib.ListN.{length, take, drop}
 use Rattle.comparable_range.specs.Range.{Bound, Range, of, supplied}
+use Rattle.comparable_range.specs.declared.Kind.the-variants.{Unbounded}
 use Rattle.comparable_range.specs.declared.Side.{Side}
 use Rattle.comparable_range.specs.declared.Side.the-variants.{First, Second}
 use Rattle.format.specs.Range.{boundIn, rangeIn, BoundInside, writeRange}
 use Rattle.format.specs.declared.range.BoundSpan.{BoundSpan}
 use Rattle.format.specs.declared.span.RangeSpan.{RangeSpan}
 use Rattle.records.specs.Values.{View}
-use Rattle.records.specs.Layouts.{table, view}
+use Rattle.records.specs.Layouts.{view}
 use Rattle.records.specs.declared.ids.ViewId.{ViewId}
 use Rattle.manifest.specs.Ranges.{effective}
-use Rattle.incremental_progress.specs.Entries.{Entry, whole, cut, pieceEntry}
+use Rattle.incremental_progress.specs.Entries.{pieceEntry}
 use Rattle.commit_rows.specs.Bytes.{rowBytes, rowRange, rowLength}
+use Rattle.commit_rows.specs.declared.rows.Form.the-variants as form
 use Rattle.commit_rows.specs.declared.rows.Row.{Row}
 use Rattle.commit_gaps.specs.Found.{Inside, PieceIs}
 use Rattle.commit_gaps.specs.declared.piece.Piece.{Piece}
 use Rattle.commit_gaps.specs.declared.piece.Piece.the-variants.{Whole, Cut}
 use Rattle.commit_gaps.proofs.Uses.{whole-entry, cut-entry}
-use Rattle.commit_entries.specs.Planned.{RowSmall, PlanReady, Added, AddedCut, PlannedMore, WholeRow, CutRow}
+use Rattle.commit_entries.specs.Planned.{RowSmall, Added, AddedCut, PlannedMore, WholeRow, CutRow}
 use Rattle.commit_entries.specs.declared.Plan.{Plan}
 use Rattle.commit_entries.proofs.Planning.{planned-whole, planned-cut}
 use Rattle.commit_entries.proofs.RowBytes.{cut-view-bytes, cut-entry-bytes, new-id-bytes, range-length, cut-length}
-use Rattle.commit_plan.specs.Held.{viewAt, HeldAt, ViewReady}
-use Rattle.commit_plan.specs.Views.{RangeSmall, gapBucket, wholeRow, cutRow, PlannedPiece}
+use Rattle.commit_plan.specs.Held.{viewAt, ViewReady}
+use Rattle.commit_plan.specs.Views.{RangeSmall, gapBucket, PlannedPiece}
 use Rattle.commit_plan.specs.declared.held.ViewHeld.{ViewHeld}
 
--- ---- cut_row
-pub cut-row-is :
-    (h : ViewHeld) (gap : ℕ) (bounds : RangeSpan) (a b : Side) {s e : BoundSpan}
-    → s ≡ of a (h .range .start) (bounds .start)
-    → e ≡ of b (h .range .end) (bounds .end)
-    → record { form = cutRow h gap bounds a b .form; bucket = gap * 2; at = h .at; past = h .end; start = s; end = e; ten = 0 } ≡ cutRow h gap bounds a b
-cut-row-is h gap bounds a b p q = rw (p, q)
+abbrev openSpan : BoundSpan
+openSpan = record { kind = Unbounded; at = 0; len = 0 }
 
--- ---- plan_piece
+abbrev wholeRow : ViewHeld → ℕ → Row
+wholeRow h gap = record { form = form.Whole; bucket = gapBucket gap; at = h .at; past = h .past; start = openSpan; end = openSpan; ten = 0 }
+
+abbrev cutRow : ViewHeld → ℕ → Side → Side → BoundSpan → BoundSpan → Row
+cutRow h gap a b s e = record { form = form.Cut a b; bucket = gapBucket gap; at = h .at; past = h .end; start = s; end = e; ten = 0 }
+
 side-small : (a : Side) (x y : BoundSpan) (n : ℕ) → x .len ≤ n → y .len ≤ n → of a x y .len ≤ n
 side-small First x y n h k = h
 side-small Second x y n h k = k
@@ -58,18 +60,22 @@ module _ (s : List ℕ) (h : ViewHeld) (y : ViewReady s h) (gap : ℕ) where
   pub piece-id : h .at + 16 ≤ length s
   piece-id = omega (arith, y .held .id, y .held .within)
 
-  pub whole-small : {r : Row} → r ≡ wholeRow h gap → RowSmall r
-  whole-small e = rw e (record { order = omega (arith, y .held .id); past = omega (arith, y .small, y .held .within); start = omega arith; end = omega arith })
+  pub whole-small : RowSmall (wholeRow h gap)
+  whole-small = record { order = omega (arith, y .held .id); past = omega (arith, y .small, y .held .within); start = omega arith; end = omega arith }
 
-  pub cut-small : (bounds : RangeSpan) {a b : Side} {r : Row} → RangeSmall bounds → r ≡ cutRow h gap bounds a b → RowSmall r
-  cut-small bounds {a} {b} k e =
-      rw e
-      (record {
+  pub cut-small :
+      (bounds : RangeSpan) {a b : Side} {m n : BoundSpan}
+      → RangeSmall bounds
+      → m ≡ of a (h .range .start) (bounds .start)
+      → n ≡ of b (h .range .end) (bounds .end)
+      → RowSmall (cutRow h gap a b m n)
+  cut-small bounds {a} {b} k e f =
+      record {
         order = omega (arith, y .held .table-id);
         past = omega (arith, y .small, y .held .table-within);
-        start = side-small a (h .range .start) (bounds .start) 262144 (omega (arith, y .small, y .held .start)) (k .start);
-        end = side-small b (h .range .end) (bounds .end) 262144 (omega (arith, y .small, y .held .end)) (k .end);
-      })
+        start = rw e (side-small a (h .range .start) (bounds .start) 262144 (omega (arith, y .small, y .held .start)) (k .start));
+        end = rw f (side-small b (h .range .end) (bounds .end) 262144 (omega (arith, y .small, y .held .end)) (k .end));
+      }
 
   whole-row : (ids job : List ℕ) → WholeRow s job ids v (gapBucket gap) (wholeRow h gap)
   unfolding rowBytes rowLength
@@ -82,14 +88,13 @@ module _ (s : List ℕ) (h : ViewHeld) (y : ViewReady s h) (gap : ℕ) where
       }
 
   pub piece-whole :
-      (ids : List ℕ) (bounds : RangeSpan) (p : Plan) (d : List ℕ) {q : Plan} {t : List ℕ} {x : Piece} {r : Row}
+      (ids : List ℕ) (bounds : RangeSpan) (p : Plan) (d : List ℕ) {q : Plan} {t : List ℕ} {x : Piece}
       → x ≡ Whole
-      → r ≡ wholeRow h gap
-      → Added r p d q t
+      → Added (wholeRow h gap) p d q t
       → PlannedPiece s ids h gap bounds x p d q t
-  piece-whole ids bounds p d {q} {t} e w a job g i z =
+  piece-whole ids bounds p d {q} {t} e a job g i z =
       let u : PieceIs (effective v) (rangeIn job (bounds .start) (bounds .end)) g Whole = rw e at z in
-      rw (whole-entry v u) (planned-whole s job ids v (gapBucket gap) (wholeRow h gap) (whole-row ids job) p d q t (rw w at a))
+      rw (whole-entry v u) (planned-whole s job ids v (gapBucket gap) (wholeRow h gap) (whole-row ids job) p d q t a)
 
   module _ (bounds : RangeSpan) (a b : Side) (job : List ℕ) (i : Inside job bounds) where
     abbrev g : Range
@@ -112,7 +117,7 @@ module _ (s : List ℕ) (h : ViewHeld) (y : ViewReady s h) (gap : ℕ) where
     end-inside : BoundInside (of b s job) (of b (h .range .end) (bounds .end))
     end-inside = side-inside b s job (h .range .end) (bounds .end) (y .held .end) (i .end)
 
-    cut-is : (ids : List ℕ) → CutRow s job ids v (supplied (effective v) g a b) (gapBucket gap) (cutRow h gap bounds a b)
+    cut-is : (ids : List ℕ) → CutRow s job ids v (supplied (effective v) g a b) (gapBucket gap) (cutRow h gap a b (of a (h .range .start) (bounds .start)) (of b (h .range .end) (bounds .end)))
     unfolding rowBytes rowLength rowRange
     cut-is ids =
         record {
@@ -132,25 +137,20 @@ module _ (s : List ℕ) (h : ViewHeld) (y : ViewReady s h) (gap : ℕ) where
         (ids : List ℕ) (p : Plan) (d : List ℕ) (q : Range) {o : Plan} {t : List ℕ} {old : ViewId}
         → old .0 ≡ take 16 (drop (h .at) s)
         → PieceIs (effective v) g q (Cut a b)
-        → AddedCut old ids (cutRow h gap bounds a b) p d o t
+        → AddedCut old ids (cutRow h gap a b (of a (h .range .start) (bounds .start)) (of b (h .range .end) (bounds .end))) p d o t
         → PlannedMore s job ids (pieceEntry v q ∷ []) (gapBucket gap ∷ []) p d o t
     piece-cut ids p d q {o} {t} {old} e z x =
         let w : old ≡ v .id = ap (λ n. record { 0 = n }) (e ∙ y .held .id-is) in
-        rw (cut-entry v z) (planned-cut s job ids v (supplied (effective v) g a b) (gapBucket gap) (cutRow h gap bounds a b) (cut-is ids) p d o t (rw w at x))
+        rw (cut-entry v z) (planned-cut s job ids v (supplied (effective v) g a b) (gapBucket gap) (cutRow h gap a b (of a (h .range .start) (bounds .start)) (of b (h .range .end) (bounds .end))) (cut-is ids) p d o t (rw w at x))
 
   pub piece-cut-planned :
-      (ids : List ℕ) (bounds : RangeSpan) (p : Plan) (d : List ℕ) {o : Plan} {t : List ℕ} {x : Piece} {a b : Side} {r : Row} {old : ViewId}
+      (ids : List ℕ) (bounds : RangeSpan) (p : Plan) (d : List ℕ) {o : Plan} {t : List ℕ} {x : Piece} {a b : Side} {m n : BoundSpan} {old : ViewId}
       → x ≡ Cut a b
       → old .0 ≡ take 16 (drop (h .at) s)
-      → r ≡ cutRow h gap bounds a b
-      → AddedCut old ids r p d o t
+      → m ≡ of a (h .range .start) (bounds .start)
+      → n ≡ of b (h .range .end) (bounds .end)
+      → AddedCut old ids (cutRow h gap a b m n) p d o t
       → PlannedPiece s ids h gap bounds x p d o t
-  piece-cut-planned ids bounds p d {o} {t} {a = a} {b = b} e i w x job q j z = piece-cut bounds a b job j ids p d q i (rw e at z) (rw w at x)
+  piece-cut-planned ids bounds p d {o} {t} {a = a} {b = b} e i f w x job q j z = piece-cut bounds a b job j ids p d q i (rw e at z) (rw (f, w) at x)
 
-pub plan-few : {ids : List ℕ} {p : Plan} → PlanReady ids 1099511627776 p → p .rows ≤ 1099511627776
-plan-few y = y .few
-
-pub plan-short : {ids : List ℕ} {p : Plan} → PlanReady ids 1099511627776 p → p .bytes ≤ p .rows * 1048576
-plan-short y = y .short
-
-pub ruleset piece-exits = (piece-id, whole-small, cut-small, piece-whole, piece-cut-planned, plan-few, plan-short)
+pub ruleset piece-exits = (piece-id, whole-small, cut-small, piece-whole, piece-cut-planned)

@@ -6,15 +6,13 @@ use mathlib.Core.Path.{_≡_, refl, sym, ap, subst, _∙_}
 use mathlib.Core.Bool.{true}
 use mathlib.Core.Option.{Option, none, some}
 use mathlib.Core.List.{List, [], _∷_, _++_, map, flatMap, append-nil}
-use lib.ListN.{length, take, drop, length-append, length-map}
+use lib.ListN.{length, take, drop, length-map}
 use lib.Dec.{T}
-use Rattle.base.specs.Bytes.{Bytes}
-use Rattle.base.specs.Lists.{All, All-append, Pairwise, map-append, flatMap-append}
+use Rattle.base.specs.Lists.{All, map-append, flatMap-append}
 use Rattle.comparable_range.specs.Range.{Bound, Range, intersect}
 use Rattle.comparable_range.specs.Cut.{_≼_, startCut}
 use Rattle.format.specs.Got.{Got, got, stop}
-use Rattle.records.specs.Form.{readMany}
-use Rattle.records.specs.Found.{isGot, valuesOf}
+use Rattle.records.specs.Found.{isGot}
 use Rattle.records.specs.Values.{View}
 use Rattle.records.specs.Layouts.{view}
 use Rattle.records.proofs.Walk.{Walk, walk-begin, walk-all, walk-here, walk-ahead, walk-onward}
@@ -22,7 +20,7 @@ use Rattle.manifest.specs.Ranges.{effective}
 use Rattle.manifest.specs.Checks.{tablePasses}
 use Rattle.incremental_progress.specs.Intervals.{listed}
 use Rattle.incremental_progress.specs.Views.{start}
-use Rattle.incremental_progress.specs.Entries.{Entry, pieceEntry}
+use Rattle.incremental_progress.specs.Entries.{Entry}
 use Rattle.incremental_progress.specs.Gaps.{pieces, gapEntries, gapsMet, runGaps}
 use Rattle.incremental_progress.proofs.Checks.{all-each}
 use Rattle.incremental_progress.proofs.GapDestination.{starts-sorted}
@@ -33,7 +31,7 @@ use Rattle.commit_gaps.specs.Found.{Reached}
 use Rattle.commit_gaps.proofs.Uses.{still-behind}
 use Rattle.commit_entries.specs.Planned.{PlanReady, PlannedMore}
 use Rattle.commit_entries.specs.declared.Plan.{Plan}
-use Rattle.commit_entries.proofs.Planning.{planned-none, planned-then}
+use Rattle.commit_entries.proofs.Planning.{planned-none, planned-then, ready-most}
 use Rattle.commit_plan.specs.Held.{viewGot, viewAt, HeldAt, ViewReady}
 use Rattle.commit_plan.specs.Views.{gapBucket}
 use Rattle.commit_plan.specs.Runs.{viewsAt, RunReady}
@@ -65,9 +63,6 @@ sorted-before (w ∷ ws) v vs s = (go ws (s .0), sorted-before ws v vs (s .1))
 one-of : (P : View → Type 0) (ws : List View) (v : View) (vs : List View) → All P (ws ++ (v ∷ vs)) → P v
 one-of P [] v vs a = a .0
 one-of P (w ∷ ws) v vs a = one-of P ws v vs (a .1)
-
-last-of : (P : View → Type 0) (ws : List View) (v : View) → All P (ws ++ (v ∷ [])) → P v
-last-of P ws v a = one-of P ws v [] a
 
 pub record RunSeen (image job ids gap-table : List ℕ) (m first n : ℕ) (p : Plan) (d : List ℕ) (k at from : ℕ) (q : Plan) (t : List ℕ) : Type 0 where
   pub run : RunReady image first n
@@ -101,7 +96,7 @@ run-begin image job ids gap-table m first n p d r l h o z =
       upto = omega arith;
       behind = λ c _. tt;
       planned = planned-none image job ids p d;
-      ready = record { few = omega (arith, z .few); few-cuts = z .few-cuts; short = z .short; within = z .within };
+      ready = ready-most z (omega (arith, z .few));
     }
 
 one-view : (gs : List Range) (ws : List View) (v : View) → flatMap (gapEntries gs) (ws ++ (v ∷ [])) ≡ flatMap (gapEntries gs) ws ++ gapEntries gs v
@@ -116,27 +111,6 @@ one-met gs ws v =
     ap (map gapBucket) e ∙ map-append gapBucket (runGaps gs ws) (gapsMet 0 gs (effective v))
 
 module _ {image job ids gap-table : List ℕ} {m first n : ℕ} {p : Plan} {d : List ℕ} {k at from : ℕ} {q : Plan} {t : List ℕ} (x : RunSeen image job ids gap-table m first n p d k at from q t) where
-  pub run-at : at ≤ length image
-  run-at = x .walk .reading .within
-
-  pub run-bytes : Bytes image
-  run-bytes = x .run .bytes
-
-  pub run-hold : GapsHold job m gap-table
-  run-hold = x .hold
-
-  pub run-ordered : GapsOrdered job
-  run-ordered = x .ordered
-
-  pub run-small : length job ≤ 262144
-  run-small = x .small
-
-  pub run-upto : from ≤ m
-  run-upto = x .upto
-
-  pub run-same : length t ≡ length d
-  run-same = x .planned .same
-
   pub run-all : n ≤ k → PlannedMore image job ids (flatMap (gapEntries (jobGaps job)) (viewsAt image first n)) (map gapBucket (runGaps (jobGaps job) (viewsAt image first n))) p d q t
   run-all l = rw (walk-all (x .walk) l) (x .planned)
 
@@ -145,7 +119,7 @@ module _ {image job ids gap-table : List ℕ} {m first n : ℕ} {p : Plan} {d : 
     run-here = walk-here (x .walk) l
 
     pub run-plan : PlanReady ids 549755813888 q
-    run-plan = record { few = omega (arith, x .ready .few, x .run .most); few-cuts = x .ready .few-cuts; short = x .ready .short; within = x .ready .within }
+    run-plan = ready-most (x .ready) (omega (arith, x .ready .few, x .run .most))
 
     -- the view at this place, among all views of the run
     record Here : Type 0 where
@@ -203,15 +177,9 @@ module _ {image job ids gap-table : List ℕ} {m first n : ℕ} {p : Plan} {d : 
               seen = x .seen ++ (v ∷ []);
               walk = walk-onward (x .walk) l (f .read) (f .within);
               upto = r .upto;
-              behind = λ c a. still-behind (effective v .start) c (last-of (λ w. start w ≼ startCut c) (x .seen) v a) r;
+              behind = λ c a. still-behind (effective v .start) c (one-of (λ w. start w ≼ startCut c) (x .seen) v [] a) r;
               planned = rw (one-view (jobGaps job) (x .seen) v, one-met (jobGaps job) (x .seen) v) (planned-then image job ids (x .planned) y);
-              ready =
-                  record {
-                    few = omega (arith, z .few, entries-most (jobGaps job) (viewAt image (h .at)), x .hold .count, x .hold .most);
-                    few-cuts = z .few-cuts;
-                    short = z .short;
-                    within = z .within;
-                  };
+              ready = ready-most z (omega (arith, z .few, entries-most (jobGaps job) (viewAt image (h .at)), x .hold .count, x .hold .most));
             }
 
-pub ruleset run-exits = (run-begin, run-at, run-bytes, run-hold, run-ordered, run-small, run-upto, run-same, run-all, run-here, run-plan, run-behind, run-view, run-reached, run-more-same, run-onward)
+pub ruleset run-exits = (run-begin, run-all, run-here, run-plan, run-behind, run-view, run-reached, run-more-same, run-onward)

@@ -4,21 +4,19 @@ use Prim.Native.Nat.{ℕ, _+_, _-_, _*_, _≤_, _<_}
 use native.Mathlib.Omega.{arith}
 use mathlib.Core.Path.{_≡_, refl, sym, ap, ap₂, subst, _∙_}
 use mathlib.Core.Bool.{Bool, true, false, _&&_}
-use mathlib.Core.List.{List, [], _∷_, _++_, map, flatMap, append-nil, append-assoc}
-use lib.Dec.{T, leb}
-use lib.ListN.{length, take, drop, length-append}
+use mathlib.Core.List.{List, [], _∷_, _++_, flatMap, append-nil, append-assoc}
+use lib.Dec.{leb}
+use lib.ListN.{length, take, length-append}
 use lib.Seq.{take-all, length-take-le}
 use mir.Val.{Fits}
 use mir.Syntax.{w64}
-use Rattle.base.specs.Bytes.{Bytes}
-use Rattle.base.specs.Lists.{All, flatMap-append}
+use Rattle.base.specs.Lists.{flatMap-append}
 use Rattle.base.specs.Pick.{and-first}
 use Rattle.base.specs.Rows.{RowsHold, hold-none, hold-more}
 use Rattle.base.specs.Splice.{splice, spliced-length}
-use Rattle.records.specs.Form.{readMany}
 use Rattle.records.specs.Found.{valuesOf}
-use Rattle.records.specs.Values.{View, Run, Image, Job}
-use Rattle.records.specs.Layouts.{view, run}
+use Rattle.records.specs.Values.{View, Run, Job}
+use Rattle.records.specs.Layouts.{run}
 use Rattle.records.proofs.RecordLayouts.{run-layout}
 use Rattle.manifest.specs.Checks.{all, tablePasses, ascend, starts, imageChecks}
 use Rattle.commit_index.specs.Index.{imageOf, IndexHold, IndexedFound}
@@ -30,22 +28,23 @@ use Rattle.incremental_progress.specs.Plans as plans
 use Rattle.incremental_progress.proofs.Checks.{all-each}
 use Rattle.incremental_progress.proofs.Plans.{length-more}
 use Rattle.incremental_progress.proofs.PlanBytes.{run-length}
-use Rattle.commit_rows.specs.Numbers.{runOf, runNumbers}
+use Rattle.commit_rows.specs.Numbers.{runNumbers}
 use Rattle.commit_rows.specs.declared.runs.RunKind.{RunKind}
-use Rattle.commit_rows.specs.declared.runs.RunKind.the-variants.{Other, Source, Destination}
 use Rattle.commit_rows.specs.declared.runs.RunRow.{RunRow}
 use Rattle.commit_rows.proofs.RowExits.{run-back}
 use Rattle.commit_durable.specs.Tables.{jobOf}
 use Rattle.commit_gaps.proofs.Places.{take-more, all-at}
 use Rattle.commit_entries.specs.Planned.{PlanReady, Planned, PlannedMore}
 use Rattle.commit_entries.specs.declared.Plan.{Plan}
+use Rattle.commit_entries.proofs.Planning.{ready-most}
 use Rattle.commit_entries.proofs.Standing.{Stands, stands}
 use Rattle.commit_outputs.specs.Outputs.{outputBuckets}
 use Rattle.commit_plan.specs.Runs.{viewsAt, RunReady}
-use Rattle.commit_plan.specs.Plans.{RunHeld, RunMade, runBuckets, drawBuckets, HeadHeld, GapsReady, ImagePassed, OutputsPlanned, kindBy, runIn, RunPlannedMore, sizeBy, SizeReady, CountReady, RunCounted, CommitPlanned}
+use Rattle.commit_plan.specs.Plans.{RunHeld, RunMade, runBuckets, HeadHeld, GapsReady, ImagePassed, OutputsPlanned, kindOf, runIn, RunPlannedMore, sizeBy, SizeReady, CountReady, RunCounted, CommitPlanned}
 use Rattle.commit_plan.specs.declared.plan.PlanHead.{PlanHead}
 use Rattle.commit_plan.specs.declared.plan.ImagePlan.{ImagePlan}
 use Rattle.commit_plan.specs.declared.plan.RunPlanned.{RunPlanned}
+use Rattle.commit_plan.proofs.OneExits.{size-small}
 use Rattle.commit_plan.proofs.CountExits.{entries-append, draws-most, size-bytes-are, size-views-are}
 
 -- ---- one run more
@@ -69,12 +68,6 @@ all-more f (q ∷ rs) r = rw (all-more f rs r) (go (f q))
     go : (b : Bool) → (b && (all f rs && f r)) ≡ ((b && all f rs) && f r)
     go true = refl
     go false = refl
-
--- how large a run can become
-size-small : (kind : RunKind) (y : IndexedRun) (p q o : Plan) → SizeReady y p q o → y .past ≤ 262144 → q .rows ≤ 8388608 → sizeBy kind y p q o .bytes ≤ 2251799813685248
-size-small Other y p q o z h m = omega (arith, z .place)
-size-small Source y p q o z h m = omega (arith, z .short)
-size-small Destination y p q o z h m = omega (arith, z .short, z .few-outputs, z .short-outputs)
 
 abbrev partsOf : List ℕ → List Entry
 partsOf s = flatMap partEntries (jobOf s .parts)
@@ -120,7 +113,7 @@ runs-begin given s ids gap-table index h runs rows i p q g o l =
       out-ready = o .ready;
       upto = omega arith;
       planned = rw (append-nil, append-nil) (o .planned);
-      ready = record { few = omega (arith, o .ready .few); few-cuts = o .ready .few-cuts; short = o .ready .short; within = o .ready .within };
+      ready = ready-most (o .ready) (omega (arith, o .ready .few));
       outputs = o .planned .count;
       bytes = refl;
       short = omega arith;
@@ -132,29 +125,8 @@ runs-begin given s ids gap-table index h runs rows i p q g o l =
     }
 
 module _ {given s ids gap-table index : List ℕ} {h : PlanHead} {o : Plan} {d e : List ℕ} {k : ℕ} {a : ImagePlan} {runs rows : List ℕ} (x : RunsSeen given s ids gap-table index h o d e k a runs rows) where
-  j : Job
-  j = jobOf s
-
-  i : Image
-  i = imageOf given
-
-  pub runs-hold : IndexHold given (h .runs) index
-  runs-hold = x .hold
-
-  pub runs-head : HeadHeld s h
-  runs-head = x .head
-
-  pub runs-gaps : GapsReady s gap-table h
-  runs-gaps = x .gaps
-
-  pub runs-same : length runs ≡ length d
-  runs-same = x .same-runs
-
-  pub runs-same-rows : length rows ≡ length e
-  runs-same-rows = x .same-rows
-
   pub runs-plan : PlanReady ids 274877906944 (a .plan)
-  runs-plan = record { few = omega (arith, x .ready .few, x .upto, x .hold .most); few-cuts = x .ready .few-cuts; short = x .ready .short; within = x .ready .within }
+  runs-plan = ready-most (x .ready) (omega (arith, x .ready .few, x .upto, x .hold .most))
 
   pub runs-all : h .runs ≤ k → CommitPlanned given s ids rows runs a
   unfolding drawEntries imageLength
@@ -176,9 +148,6 @@ module _ {given s ids gap-table index : List ℕ} {h : PlanHead} {o : Plan} {d e
     runs-room = omega (arith, x .hold .most, x .long)
 
     module _ {y : IndexedRun} (f : IndexedFound given k y) where
-      r : Run
-      r = f .run
-
       is-run : runIn given y ≡ f .run
       is-run = ap₂ (λ (n : ℕ) (vs : List View). record { id = n; views = vs }) (f .held .id) (ap valuesOf (f .held .views-are))
 
@@ -215,8 +184,8 @@ module _ {given s ids gap-table index : List ℕ} {h : PlanHead} {o : Plan} {d e
         more : PlannedMore given s ids (runDraws (jobOf s) (f .run)) (runBuckets (jobOf s) (f .run)) (a .plan) rows (one .plan) t
         more = subst (λ (q : Run). PlannedMore given s ids (runDraws (jobOf s) q) (runBuckets (jobOf s) q) (a .plan) rows (one .plan) t) is-run (w .more)
 
-        kind-is : one .kind ≡ kindBy (jobOf s) (f .run .id)
-        kind-is = w .kind ∙ ap (kindBy (jobOf s)) (f .held .id)
+        kind-is : one .kind ≡ kindOf (jobOf s) (f .run)
+        kind-is = w .kind ∙ ap (kindOf (jobOf s)) is-run
 
         now : Planned given s ids ((partsOf s ++ flatMap (runDraws (jobOf s)) (take k (imageOf given))) ++ runDraws (jobOf s) (f .run)) ((outputBuckets 0 (jobOf s .parts) ++ flatMap (runBuckets (jobOf s)) (take k (imageOf given))) ++ runBuckets (jobOf s) (f .run)) t (one .plan)
         now = more .more (partsOf s ++ flatMap (runDraws (jobOf s)) (take k (imageOf given))) (outputBuckets 0 (jobOf s .parts) ++ flatMap (runBuckets (jobOf s)) (take k (imageOf given))) (x .planned)
@@ -309,10 +278,10 @@ module _ {given s ids gap-table index : List ℕ} {h : PlanHead} {o : Plan} {d e
                 out-ready = x .out-ready;
                 upto = omega arith;
                 planned = rw (more-runs, v, w′) (rw (assoc, assoc′) at now);
-                ready = record { few = omega (arith, ready-now .few, few-draws); few-cuts = ready-now .few-cuts; short = ready-now .short; within = ready-now .within };
+                ready = ready-most ready-now (omega (arith, ready-now .few, few-draws));
                 outputs = x .outputs;
                 bytes = rw (more-runs, length-more, bytes-count) (omega (arith, x .bytes));
-                short = omega (arith, x .short, size-small (one .kind) y (a .plan) (one .plan) o size (omega (arith, f .held .past, x .passed .small)) (omega (arith, ready-now .few, few-draws, x .upto, x .hold .most)));
+                short = omega (arith, x .short, size-small (one .kind) y (a .plan) (one .plan) o size (omega (arith, f .held .past, x .passed .small)));
                 fits = rw (more-runs, all-more, views-count, x .fits);
                 made = rw (more-runs, put-row) (hold-more 6 (RunMade given (jobOf s)) (f .run) (runNumbers row) (x .made) refl (rw seen-long runs-room) made-row);
                 long = omega (arith, runs-more-same, x .same-runs, x .long);
@@ -320,4 +289,4 @@ module _ {given s ids gap-table index : List ℕ} {h : PlanHead} {o : Plan} {d e
                 same-rows = runs-more-rows;
               })
 
-pub ruleset runs-exits = (runs-begin, runs-hold, runs-head, runs-gaps, runs-same, runs-same-rows, runs-plan, runs-all, runs-next, runs-room, runs-ready, runs-count, runs-more-rows, runs-more-same, runs-onward)
+pub ruleset runs-exits = (runs-begin, runs-plan, runs-all, runs-next, runs-room, runs-ready, runs-count, runs-more-rows, runs-more-same, runs-onward)

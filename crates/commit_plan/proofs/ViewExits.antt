@@ -1,19 +1,18 @@
 -- What the loop over a view's pieces keeps: those before a gap are planned.
 -- Assumes nothing.
-use Prim.Native.Nat.{ℕ, _+_, _-_, _*_, _≤_, _<_}
+use Prim.Native.Nat.{ℕ, _+_, _-_, _≤_, _<_}
 use native.Mathlib.Omega.{arith}
-use mathlib.Core.Path.{_≡_, refl, sym, ap, subst, _∙_}
+use mathlib.Core.Path.{_≡_, sym, subst, _∙_}
 use mathlib.Core.List.{List, [], _∷_, _++_, map, flatMap, append-nil, append-assoc}
-use lib.ListN.{length, take, drop, length-append, drop-of-length-le}
+use lib.ListN.{length, drop, length-append, drop-of-length-le}
 use Rattle.base.specs.Lists.{map-append}
-use Rattle.comparable_range.specs.Range.{Bound, Range}
-use Rattle.format.specs.Range.{rangeIn, boundIn, BoundInside}
+use Rattle.comparable_range.specs.Range.{Range}
+use Rattle.format.specs.Range.{rangeIn}
 use Rattle.format.specs.declared.span.RangeSpan.{RangeSpan}
-use Rattle.records.specs.Values.{View}
 use Rattle.manifest.specs.Ranges.{effective}
 use Rattle.manifest.specs.Laws.{StartsHeld}
 use Rattle.manifest.proofs.ViewRanges.{effective-start-is-held}
-use Rattle.incremental_progress.specs.Entries.{Entry, pieceEntry}
+use Rattle.incremental_progress.specs.Entries.{pieceEntry}
 use Rattle.incremental_progress.specs.Gaps.{pieces, gapEntries, gapsMet}
 use Rattle.commit_durable.specs.Tables.{jobGaps, GapsHold}
 use Rattle.commit_gaps.specs.Ordered.{GapsOrdered}
@@ -24,8 +23,8 @@ use Rattle.commit_gaps.specs.declared.next.NextPiece.the-variants.{None, At}
 use Rattle.commit_gaps.proofs.Uses.{reached-pieces, reached-met}
 use Rattle.commit_entries.specs.Planned.{PlanReady, PlannedMore}
 use Rattle.commit_entries.specs.declared.Plan.{Plan}
-use Rattle.commit_entries.proofs.Planning.{planned-none, planned-then}
-use Rattle.commit_plan.specs.Held.{viewAt, HeldAt, ViewReady}
+use Rattle.commit_entries.proofs.Planning.{planned-none, planned-then, ready-most}
+use Rattle.commit_plan.specs.Held.{viewAt, ViewReady}
 use Rattle.commit_plan.specs.Views.{RangeSmall, gapBucket, PlannedPiece}
 use Rattle.commit_plan.specs.declared.held.ViewHeld.{ViewHeld}
 
@@ -77,7 +76,7 @@ view-begin image job ids gap-table m h p d y l k o r z =
       gaps-are = reached-met (shown image h) r k;
       planned = planned-none image job ids p d;
       few = omega arith;
-      ready = record { few = omega (arith, z .few); few-cuts = z .few-cuts; short = z .short; within = z .within };
+      ready = ready-most z (omega (arith, z .few));
     }
 
 module _ {image job ids gap-table : List ℕ} {m : ℕ} {h : ViewHeld} {p : Plan} {d : List ℕ} {g : ℕ} {q : Plan} {t : List ℕ} (x : ViewSeen image job ids gap-table m h p d g q t) where
@@ -87,29 +86,8 @@ module _ {image job ids gap-table : List ℕ} {m : ℕ} {h : ViewHeld} {p : Plan
   pub view-held : StartsHeld (rangeIn image (h .range .start) (h .range .end))
   view-held = rw (x .view .held .range-is) (effective-start-is-held (viewAt image (h .at)) (x .view .passes))
 
-  pub view-hold : GapsHold job m gap-table
-  view-hold = x .hold
-
-  pub view-ordered : GapsOrdered job
-  view-ordered = x .ordered
-
-  pub view-upto : g ≤ m
-  view-upto = x .upto
-
-  pub view-ready : ViewReady image h
-  view-ready = x .view
-
   pub view-plan : PlanReady ids 1099511627776 q
-  view-plan =
-      record {
-        few = omega (arith, x .ready .few, x .few, x .upto, x .hold .most);
-        few-cuts = x .ready .few-cuts;
-        short = x .ready .short;
-        within = x .ready .within;
-      }
-
-  pub view-same : length t ≡ length d
-  view-same = x .planned .same
+  view-plan = ready-most (x .ready) (omega (arith, x .ready .few, x .few, x .upto, x .hold .most))
 
   ended : pieces (drop g (jobGaps job)) (shown image h) ≡ [] → gapsMet g (drop g (jobGaps job)) (shown image h) ≡ []
       → PlannedMore image job ids (gapEntries (jobGaps job) (viewAt image (h .at))) (map gapBucket (gapsMet 0 (jobGaps job) (shown image h))) p d q t
@@ -171,7 +149,7 @@ module _ {image job ids gap-table : List ℕ} {m : ℕ} {h : ViewHeld} {p : Plan
               gaps-are = x .gaps-are ∙ rw (at .gaps-are) (sym (append-assoc (x .met) (k ∷ []) (gapsMet next (drop next (jobGaps job)) (shown image h))));
               planned = rw (map-append (pieceEntry (viewAt image (h .at))) (x .done) (at .piece ∷ []), map-append gapBucket (x .met) (k ∷ [])) (planned-then image job ids (x .planned) one);
               few = omega (arith, n, x .few, at .from, at .onward);
-              ready = record { few = omega (arith, n, z .few); few-cuts = z .few-cuts; short = z .short; within = z .within };
+              ready = ready-most z (omega (arith, n, z .few));
             }
 
-pub ruleset view-exits = (view-begin, view-inside, view-held, view-hold, view-ordered, view-upto, view-ready, view-plan, view-same, view-all, view-none, view-gap, view-bounds, view-less, view-next, view-more-same, view-onward)
+pub ruleset view-exits = (view-begin, view-inside, view-held, view-plan, view-all, view-none, view-gap, view-bounds, view-less, view-next, view-more-same, view-onward)

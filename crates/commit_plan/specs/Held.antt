@@ -5,10 +5,9 @@ use mathlib.Core.Bool.{true}
 use mathlib.Core.Option.{none}
 use mathlib.Core.List.{List, []}
 use lib.ListN.{length, take, drop}
-use Rattle.base.specs.Bytes.{Bytes}
 use Rattle.format.specs.Got.{Got, got, stop}
 use Rattle.format.specs.Range.{rangeIn, BoundInside}
-use Rattle.records.specs.Values.{Table, View}
+use Rattle.records.specs.Values.{View}
 use Rattle.records.specs.Layouts.{table, view}
 use Rattle.manifest.specs.Ranges.{effective}
 use Rattle.manifest.specs.Checks.{tablePasses}

@@ -3,7 +3,7 @@ use Prim.Native.Nat.{ℕ, _+_, _-_, _*_, _≤_}
 use mathlib.Core.Path.{_≡_}
 use mathlib.Core.Bool.{true, _&&_}
 use mathlib.Core.List.{List, [], _++_, map, flatMap}
-use lib.Dec.{leb, eqb}
+use lib.Dec.{leb}
 use lib.ListN.{length, drop}
 use Rattle.base.specs.Bytes.{Bytes}
 use Rattle.base.specs.Pick.{pick}
@@ -13,7 +13,7 @@ use Rattle.format.specs.Got.{got}
 use Rattle.records.specs.Values.{Run, Image, Job}
 use Rattle.records.specs.Layouts.{run}
 use Rattle.records.specs.Spans.{idsIn}
-use Rattle.manifest.specs.Checks.{all, has, imageChecks}
+use Rattle.manifest.specs.Checks.{all, imageChecks}
 use Rattle.commit_index.specs.Index.{imageOf}
 use Rattle.commit_index.specs.declared.runs.IndexedRun.{IndexedRun}
 use Rattle.incremental_progress.specs.Entries.{partEntries}
@@ -86,15 +86,12 @@ pub record OutputsPlanned (given record′ ids rows : List ℕ) (p : Plan) : Typ
   pub ready : PlanReady ids 65536 p
 
 -- ---- one run
-abbrev pub kindBy : Job → ℕ → RunKind
-kindBy j n = pick (eqb n (j .destination)) Destination (pick (has n (j .sources)) Source Other)
-
 -- the run that stands where the index says
 abbrev pub runIn : List ℕ → IndexedRun → Run
 runIn given x = record { id = x .id; views = viewsAt given (x .first) (x .views) }
 
 pub record RunPlannedMore (given record′ ids : List ℕ) (x : IndexedRun) (p : Plan) (d : List ℕ) (q : RunPlanned) (t : List ℕ) : Type 0 where
-  pub kind : q .kind ≡ kindBy (jobOf record′) (x .id)
+  pub kind : q .kind ≡ kindOf (jobOf record′) (runIn given x)
   pub more : PlannedMore given record′ ids (runDraws (jobOf record′) (runIn given x)) (runBuckets (jobOf record′) (runIn given x)) p d (q .plan) t
 
 -- its size, if its rows took a plan from p to q
@@ -107,7 +104,7 @@ pub record SizeReady (x : IndexedRun) (p q o : Plan) : Type 0 where
   pub rows : p .rows ≤ q .rows
   pub bytes : p .bytes ≤ q .bytes
   pub place : x .first ≤ x .past
-  pub few : q .rows ≤ 1099511627776
+  pub few : q .rows ≤ 8388608
   pub short : q .bytes ≤ q .rows * 1048576
   pub few-outputs : o .rows ≤ 65536
   pub short-outputs : o .bytes ≤ o .rows * 1048576

@@ -1,16 +1,11 @@
 -- What it means that the pieces of a view are planned.
 use Prim.Native.Nat.{ℕ, _*_, _≤_}
 use mathlib.Core.List.{List, [], _∷_}
-use Rattle.comparable_range.specs.Range.{Range, of}
-use Rattle.comparable_range.specs.declared.Kind.the-variants.{Unbounded}
-use Rattle.comparable_range.specs.declared.Side.{Side}
+use Rattle.comparable_range.specs.Range.{Range}
 use Rattle.format.specs.Range.{rangeIn}
-use Rattle.format.specs.declared.range.BoundSpan.{BoundSpan}
 use Rattle.format.specs.declared.span.RangeSpan.{RangeSpan}
 use Rattle.manifest.specs.Ranges.{effective}
 use Rattle.incremental_progress.specs.Entries.{pieceEntry}
-use Rattle.commit_rows.specs.declared.rows.Form.the-variants.{Whole, Cut}
-use Rattle.commit_rows.specs.declared.rows.Row.{Row}
 use Rattle.commit_gaps.specs.Found.{Inside, PieceIs}
 use Rattle.commit_gaps.specs.declared.piece.Piece.{Piece}
 use Rattle.commit_entries.specs.Planned.{PlannedMore}
@@ -26,26 +21,6 @@ pub record RangeSmall (r : RangeSpan) : Type 0 where
 abbrev pub gapBucket : ℕ → ℕ
 gapBucket g = g * 2
 
--- ---- the rows of a piece
-abbrev pub openSpan : BoundSpan
-openSpan = record { kind = Unbounded; at = 0; len = 0 }
-
-abbrev pub wholeRow : ViewHeld → ℕ → Row
-wholeRow h gap = record { form = Whole; bucket = gapBucket gap; at = h .at; past = h .past; start = openSpan; end = openSpan; ten = 0 }
-
-abbrev pub cutRow : ViewHeld → ℕ → RangeSpan → Side → Side → Row
-cutRow h gap bounds a b =
-    record {
-      form = Cut a b;
-      bucket = gapBucket gap;
-      at = h .at;
-      past = h .end;
-      start = of a (h .range .start) (bounds .start);
-      end = of b (h .range .end) (bounds .end);
-      ten = 0;
-    }
-
--- ---- planned
 -- the piece q of the view in a gap with some bounds, which stand in the job
 abbrev pub PlannedPiece : List ℕ → List ℕ → ViewHeld → ℕ → RangeSpan → Piece → Plan → List ℕ → Plan → List ℕ → Type 0
 PlannedPiece image ids h gap bounds piece p d r t =

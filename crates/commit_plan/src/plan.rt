@@ -4,17 +4,13 @@ use commit_entries::Plan;
 use commit_index::IndexedRun;
 use commit_rows::RunKind;
 use commit_rows::RunRow;
-use records::RunSpan;
 ghost use mathlib.Core.Path.{_≡_};
-ghost use mathlib.Core.Bool.{_&&_};
 ghost use Prim.Native.Nat.{_≤_, _+_, _*_};
-ghost use lib.Dec.{leb};
 ghost use lib.ListN.{length};
 ghost use Rattle.commit_index.specs.Index.{IndexHold};
-ghost use Rattle.commit_durable.specs.Tables.{jobOf};
 ghost use Rattle.commit_entries.specs.Planned.{PlanReady};
 ghost use Rattle.commit_plan.specs.Runs.{RunReady};
-ghost use Rattle.commit_plan.specs.Plans.{HeadHeld, GapsReady, kindBy, RunPlannedMore, sizeBy, SizeReady, CountReady, RunCounted, ImagePassed, OutputsPlanned, CommitPlanned};
+ghost use Rattle.commit_plan.specs.Plans.{HeadHeld, GapsReady, RunPlannedMore, sizeBy, SizeReady, CountReady, RunCounted, ImagePassed, OutputsPlanned, CommitPlanned};
 
 // What the runs are planned with: the job's destination and its sources, which stand from a place on, how many gaps it has, and its
 // outputs, which are planned; and how many runs the image has.
@@ -33,20 +29,6 @@ pub struct ImagePlan {
     pub outputs: usize,
     pub bytes: usize,
     pub fits: bool,
-}
-
-// What a commit does with the run of an id.
-fn kind_of(job: &[u8], head: PlanHead, id: u64) -> RunKind
-    requires { ⌜ HeadHeld (now job) head ⌝ }
-    ensures { λ r. ⌜ r ≡ kindBy (jobOf (now (job .entry))) id ⌝ }
-{
-    if id == head.destination {
-        return RunKind::Destination;
-    }
-    if commit_durable::is_source(job, head.from, head.sources, id) {
-        return RunKind::Source;
-    }
-    RunKind::Other
 }
 
 // The kind of a run, and the plan after its rows.
@@ -69,22 +51,23 @@ fn plan_one<'a>(
     requires { ⌜ RunReady (now image) (run .first) (run .views) ⌝ ∗ ⌜ HeadHeld (now job) head ⌝ ∗ ⌜ GapsReady (now job) (now gaps) head ⌝ ∗ ⌜ PlanReady (now ids) 274877906944 p ⌝ }
     ensures { λ q. ⌜ RunPlannedMore (now (image .entry)) (now (job .entry)) (now (ids .entry)) run p (now (rows .entry)) q (now (rows .exit)) ⌝ }
 {
-    let span = RunSpan {
-        id: run.id,
-        views: run.views,
-        first: run.first,
-    };
-    let kind = kind_of(job, head, run.id);
-    match kind {
-        RunKind::Other => RunPlanned { kind, plan: p },
-        RunKind::Source => {
-            let plan = plan_run(image, job, ids, gaps, head.gaps, rows, span, p);
-            RunPlanned { kind, plan }
-        }
-        RunKind::Destination => {
-            let plan = plan_run(image, job, ids, gaps, head.gaps, rows, span, p);
-            RunPlanned { kind, plan }
-        }
+    if run.id == head.destination {
+        let plan = plan_run(image, job, ids, gaps, head.gaps, rows, run, p);
+        return RunPlanned {
+            kind: RunKind::Destination,
+            plan,
+        };
+    }
+    if commit_durable::is_source(job, head.from, head.sources, run.id) {
+        let plan = plan_run(image, job, ids, gaps, head.gaps, rows, run, p);
+        return RunPlanned {
+            kind: RunKind::Source,
+            plan,
+        };
+    }
+    RunPlanned {
+        kind: RunKind::Other,
+        plan: p,
     }
 }
 
@@ -112,15 +95,6 @@ fn run_size(run: IndexedRun, kind: RunKind, p: Plan, q: Plan, outputs: Plan) -> 
             bytes: bytes + outputs.bytes,
         },
     }
-}
-
-fn within(fits: bool, views: usize) -> bool
-    ensures { λ r. ⌜ r ≡ (fits && leb views 1024) ⌝ }
-{
-    if fits {
-        return views <= 1024;
-    }
-    false
 }
 
 // A run counted, and put into the table of runs with its rows.
@@ -152,7 +126,7 @@ fn count_run(
         plan: q,
         outputs: a.outputs,
         bytes: a.bytes + 6 + size.bytes,
-        fits: within(a.fits, size.views),
+        fits: a.fits && size.views <= 1024,
     }
 }
 

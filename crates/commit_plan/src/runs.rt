@@ -2,7 +2,7 @@
 use crate::held::view_held;
 use crate::views::plan_view;
 use commit_entries::Plan;
-use records::RunSpan;
+use commit_index::IndexedRun;
 ghost use mathlib.Core.List.{map, flatMap};
 ghost use Prim.Native.Nat.{_≤_};
 ghost use lib.ListN.{length};
@@ -21,7 +21,7 @@ pub fn plan_run<'a>(
     gaps: &[usize],
     m: usize,
     rows: &mut [usize],
-    run: RunSpan,
+    run: IndexedRun,
     p: Plan,
 ) -> Plan
     requires { ⌜ RunReady (now image) (run .first) (run .views) ⌝ ∗ ⌜ length (now job) ≤ 262144 ⌝ ∗ ⌜ GapsHold (now job) m (now gaps) ⌝ ∗ ⌜ GapsOrdered (now job) ⌝ ∗ ⌜ PlanReady (now ids) 274877906944 p ⌝ }

@@ -8,11 +8,9 @@ use commit_gaps::Piece;
 use commit_rows::Form;
 use commit_rows::Row;
 use comparable_range::Kind;
-use comparable_range::Side;
 use format::BoundSpan;
 use format::span;
 use format::span::RangeSpan;
-ghost use mathlib.Core.Path.{_≡_};
 ghost use mathlib.Core.List.{map};
 ghost use Prim.Native.Nat.{_≤_};
 ghost use lib.ListN.{length};
@@ -23,47 +21,9 @@ ghost use Rattle.commit_gaps.specs.Ordered.{GapsOrdered};
 ghost use Rattle.commit_gaps.specs.Found.{Reached};
 ghost use Rattle.commit_entries.specs.Planned.{PlanReady, PlannedMore};
 ghost use Rattle.commit_plan.specs.Held.{viewAt, ViewReady};
-ghost use Rattle.commit_plan.specs.Views.{wholeRow, cutRow, RangeSmall, PlannedPiece, gapBucket};
+ghost use Rattle.commit_plan.specs.Views.{RangeSmall, PlannedPiece, gapBucket};
 
-// The row of a view that stays as it is, in a gap.
-fn whole_row(h: ViewHeld, gap: usize) -> Row
-    requires { ⌜ gap ≤ 65 ⌝ }
-    ensures { λ r. ⌜ r ≡ wholeRow h gap ⌝ }
-{
-    let none = BoundSpan {
-        kind: Kind::Unbounded,
-        at: 0,
-        len: 0,
-    };
-    Row {
-        form: Form::Whole,
-        bucket: gap * 2,
-        at: h.at,
-        past: h.past,
-        start: none,
-        end: none,
-        ten: 0,
-    }
-}
-
-// The row of a range of a view, each bound of which is the view's (first) or the gap's (second).
-fn cut_row(h: ViewHeld, gap: usize, bounds: RangeSpan, a: Side, b: Side) -> Row
-    requires { ⌜ gap ≤ 65 ⌝ }
-    ensures { λ r. ⌜ r ≡ cutRow h gap bounds a b ⌝ }
-{
-    let range = h.range;
-    Row {
-        form: Form::Cut(a, b),
-        bucket: gap * 2,
-        at: h.at,
-        past: h.end,
-        start: span::bound_of(a, range.start, bounds.start),
-        end: span::bound_of(b, range.end, bounds.end),
-        ten: 0,
-    }
-}
-
-// One piece of a view, in a gap with some bounds.
+// One piece of a view, in a gap with some bounds. Each bound of a cut is the view's (first) or the gap's (second).
 fn plan_piece(
     image: &[u8],
     ids: &[u8],
@@ -77,12 +37,38 @@ fn plan_piece(
     requires { ⌜ ViewReady (now image) h ⌝ ∗ ⌜ gap ≤ 65 ⌝ ∗ ⌜ RangeSmall bounds ⌝ ∗ ⌜ PlanReady (now ids) 1099511627776 p ⌝ }
     ensures { λ q. ⌜ PlannedPiece (now (image .entry)) (now (ids .entry)) h gap bounds piece p (now (rows .entry)) q (now (rows .exit)) ⌝ }
 {
+    let bucket = gap * 2;
+    let at = h.at;
     match piece {
-        Piece::Whole => add_row(rows, p, whole_row(h, gap)),
+        Piece::Whole => {
+            let none = BoundSpan {
+                kind: Kind::Unbounded,
+                at: 0,
+                len: 0,
+            };
+            let row = Row {
+                form: Form::Whole,
+                bucket,
+                at,
+                past: h.past,
+                start: none,
+                end: none,
+                ten: 0,
+            };
+            add_row(rows, p, row)
+        }
         Piece::Cut(a, b) => {
-            let old = commit_ids::view_id_at(image, h.at);
-            let row = cut_row(h, gap, bounds, a, b);
-            add_cut(old, ids, rows, p, row)
+            let range = h.range;
+            let row = Row {
+                form: Form::Cut(a, b),
+                bucket,
+                at,
+                past: h.end,
+                start: span::bound_of(a, range.start, bounds.start),
+                end: span::bound_of(b, range.end, bounds.end),
+                ten: 0,
+            };
+            add_cut(commit_ids::view_id_at(image, at), ids, rows, p, row)
         }
     }
 }

@@ -5,35 +5,26 @@ use borrow.Author.Needs.{needs}
 use Rattle.commit_plan.proofs.plan.plan_one.Statement.{statement}
 use Rattle.commit_plan.proofs.plan.plan_one.Tie as tie
 
-kind-of-requires : tie.Need-kind-of-requires
-kind-of-requires c κs = search (needs, one-exits)
-
-enum-told : tie.Need-enum-told
-enum-told c = search (needs, one-exits)
-
-enum-told-2 : tie.Need-enum-told-2
-enum-told-2 c = search (needs, one-exits)
-
 plan-run-requires : tie.Need-plan-run-requires
 plan-run-requires c κs = search (needs, one-exits)
-
-enum-told-3 : tie.Need-enum-told-3
-enum-told-3 c = search (needs, one-exits)
-
-plan-run-requires-2 : tie.Need-plan-run-requires-2
-plan-run-requires-2 c κs = search (needs, one-exits)
-
-returns : tie.Need-returns
-returns c = search (needs, one-exits)
 
 same-length : tie.Need-same-length
 same-length c = search (needs, one-exits)
 
-returns-2 : tie.Need-returns-2
-returns-2 c = search (needs, one-exits)
+returns : tie.Need-returns
+returns c = search (needs, one-exits)
+
+is-source-requires : tie.Need-is-source-requires
+is-source-requires c κs = search (needs, one-exits)
+
+plan-run-requires-2 : tie.Need-plan-run-requires-2
+plan-run-requires-2 c κs = search (needs, one-exits)
 
 same-length-2 : tie.Need-same-length-2
 same-length-2 c = search (needs, one-exits)
+
+returns-2 : tie.Need-returns-2
+returns-2 c = search (needs, one-exits)
 
 returns-3 : tie.Need-returns-3
 returns-3 c = search (needs, one-exits)
@@ -42,14 +33,11 @@ pub plan-one-spec : {M : Type 1} → statement M
 plan-one-spec =
     tie.close
     (tie.spec
-    kind-of-requires
-    enum-told
-    enum-told-2
     plan-run-requires
-    enum-told-3
-    plan-run-requires-2
-    returns
     same-length
-    returns-2
+    returns
+    is-source-requires
+    plan-run-requires-2
     same-length-2
+    returns-2
     returns-3)
