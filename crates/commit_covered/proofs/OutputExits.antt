@@ -201,12 +201,12 @@ module _ {s parts : List ℕ} {n : ℕ} {chain₀ slots₀ chain slots : List �
   pub parts-slots : {slots₁ : List ℕ} → Cleared slots₁ slots₀ → length slots ≡ length slots₁
   parts-slots c = p .slots-length ∙ c .same-length
 
-  pub parts-all : {slots₁ : List ℕ} → Cleared slots₁ slots₀ → n ≤ i → AllKept s chain₀ slots₁ chain slots k
+  pub parts-all : {slots₁ : List ℕ} → Cleared slots₁ slots₀ → n ≤ i → AllKept s chain₀ slots₁ chain slots
   parts-all c h =
       let a : take i (jobOf s .parts) ≡ jobOf s .parts = take-all i (jobOf s .parts) (omega (arith, p .held .count)) in
       let z : k ≡ length (outputs (jobOf s .parts)) = p .count ∙ ap (λ l. length (outputs l)) a in
       let w : take k (outputs (jobOf s .parts)) ≡ outputs (jobOf s .parts) = take-all k (outputs (jobOf s .parts)) (omega (arith, z)) in
-      record { count = z; kept = rw w at (p .kept .ids); chain-length = p .chain-length; slots-length = parts-slots c }
+      record { kept = rw w at (p .kept .ids); chain-length = p .chain-length; slots-length = parts-slots c }
 
   module _ (h : i < n) where
     pub part-room : i * 10 + 10 ≤ length parts
