@@ -6,7 +6,7 @@ use mathlib.Core.Path.{_≡_, refl, sym, ap, _∙_}
 use mathlib.Core.Bool.{Bool, true, false, not, _&&_, _||_}
 use mathlib.Core.List.{List, [], _∷_, _++_}
 use lib.Dec.{T}
-use lib.ListN.{length, take, drop, drop-of-length-le}
+use lib.ListN.{take, drop, drop-of-length-le}
 use lib.Seq.{drop-drop, drop-at}
 use Rattle.base.specs.Lists.{All, All-map, All-of}
 use Rattle.comparable_range.specs.Range.{Range}
@@ -106,9 +106,6 @@ module _ {s : List ℕ} {first n : ℕ} {job : List ℕ} {m g seen at : ℕ} (p 
           let r : drop (seen + 1) (viewsAt s first n) ≡ w .tail = sym (drop-drop 1 seen (viewsAt s first n)) ∙ ap (drop 1) d in
           d ∙ ap (λ l. viewIn s v ∷ l) (sym r)
 
-      pub seen-id : v .table .id + 16 ≤ length s
-      seen-id = f .inside .table .id
-
       passes : tablePasses (viewIn s v) ≡ true
       passes = all-at (λ w. tablePasses w ≡ true) seen (viewsAt s first n) (all-each tablePasses (viewsAt s first n) (p .here .tables)) next-is
 
@@ -178,4 +175,4 @@ module _ {s : List ℕ} {first n : ℕ} {job : List ℕ} {m g seen at : ℕ} (p 
               (All-map (λ k l. behind-later (effective (viewIn s v) .start) (effective k .start) (take d (jobGaps job)) l (rw (start-is w) at (y .behind))) (drop (seen + 1) (viewsAt s first n)) later)
               (rw (output-is, z, c))
 
-pub ruleset view-exits = (seen-none, seen-all, seen-here, seen-id, shown-inside, shown-held, shown-behind, seen-other, seen-left, seen-covered)
+pub ruleset view-exits = (seen-none, seen-all, seen-here, shown-inside, shown-held, shown-behind, seen-other, seen-left, seen-covered)
