@@ -5,10 +5,9 @@ ghost use mathlib.Core.Path.{_≡_};
 ghost use Prim.Native.Nat.{_<_};
 ghost use lib.ListN.{length};
 ghost use Rattle.commit_index.specs.Index.{imageOf};
-ghost use Rattle.incremental_progress.specs.Jobs.{outputs};
 ghost use Rattle.commit_durable.specs.Tables.{jobOf, jobGaps, PartsHold};
 ghost use Rattle.commit_covered.specs.Covered.{coveredBy};
-ghost use Rattle.commit_covered.specs.Kept.{Room, IdsKept};
+ghost use Rattle.commit_covered.specs.Kept.{Room};
 ghost use Rattle.commit_covered.specs.Runs.{CoverReady};
 
 // The destination of the job, and how many parts, gaps and runs stand in the tables.
@@ -20,18 +19,22 @@ pub struct CoverHead {
 }
 
 // The views of the destination are covered; those of another run need not be.
-fn runs_covered<'a>(
+pub fn image_covered<'a>(
     image: &'a [u8],
     job: &'a [u8],
     index: &[usize],
+    parts: &[usize],
     gaps: &[usize],
-    chain: &[usize],
-    slots: &[usize],
+    chain: &mut [usize],
+    slots: &mut [usize],
     head: CoverHead,
 ) -> bool
-    requires { ⌜ CoverReady (now image) (now job) (now index) (now gaps) head ⌝ ∗ ⌜ IdsKept (now job) (outputs (jobOf (now job) .parts)) (now chain) (now slots) ⌝ }
+    requires { ⌜ CoverReady (now image) (now job) (now index) (now gaps) head ⌝ }
+    requires { ⌜ PartsHold (now job) (head .parts) (now parts) ⌝ ∗ ⌜ Room (now job) (now chain) ⌝ ∗ ⌜ 0 < length (now slots) ⌝ }
     ensures { λ r. ⌜ r ≡ coveredBy (jobGaps (now (job .entry))) (imageOf (now (image .entry))) (jobOf (now (job .entry))) ⌝ }
+    ensures { λ _. ⌜ length (now (chain .exit)) ≡ length (now (chain .entry)) ⌝ ∗ ⌜ length (now (slots .exit)) ≡ length (now (slots .entry)) ⌝ }
 {
+    keep_outputs(job, parts, head.parts, chain, slots);
     let mut k = 0;
     while k < head.runs {
         let run = commit_index::indexed_run(image, index, head.runs, k);
@@ -53,24 +56,4 @@ fn runs_covered<'a>(
         }
     }
     true
-}
-
-// With the ids of the job's outputs still to be kept.
-pub fn image_covered<'a>(
-    image: &'a [u8],
-    job: &'a [u8],
-    index: &[usize],
-    parts: &[usize],
-    gaps: &[usize],
-    chain: &mut [usize],
-    slots: &mut [usize],
-    head: CoverHead,
-) -> bool
-    requires { ⌜ CoverReady (now image) (now job) (now index) (now gaps) head ⌝ }
-    requires { ⌜ PartsHold (now job) (head .parts) (now parts) ⌝ ∗ ⌜ Room (now job) (now chain) ⌝ ∗ ⌜ 0 < length (now slots) ⌝ }
-    ensures { λ r. ⌜ r ≡ coveredBy (jobGaps (now (job .entry))) (imageOf (now (image .entry))) (jobOf (now (job .entry))) ⌝ }
-    ensures { λ _. ⌜ length (now (chain .exit)) ≡ length (now (chain .entry)) ⌝ ∗ ⌜ length (now (slots .exit)) ≡ length (now (slots .entry)) ⌝ }
-{
-    keep_outputs(job, parts, head.parts, chain, slots);
-    runs_covered(image, job, index, gaps, chain, slots, head)
 }
