@@ -1,4 +1,4 @@
--- The exits of `entry`, `same`, `keep` and `is_kept`.
+-- The exits of `entry`, `keep` and `is_kept`.
 -- Assumes nothing.
 use Prim.Native.Nat.{ℕ, _+_, _-_, _*_, _%_, _^_, _≤_, _<_}
 use native.Mathlib.Omega.{arith}
@@ -35,10 +35,6 @@ pub tail-room : (l : List ℕ) → length (map (λ (v : ℕ). v) l) ≡ 16 → 1
 tail-room l e = omega (arith, length-unmapped ℕ l 16 e)
 
 pub ruleset entry-exits = (entry-is, entry-small, head-room, tail-room)
-
--- ---- same
-pub same-ids : (x y : TableId) {o : Order} → o ≡ cmpKey (x .0) (y .0) → {t : Bool} → t ≡ isEqual o → t ≡ sameTableId x y
-same-ids x y ho ht = rw (ht, ho)
 
 -- ---- keep
 module _ (chain : List ℕ) (k : ℕ) (h : k * 2 + 2 ≤ length chain) where
@@ -110,9 +106,9 @@ module _ {s chain : List ℕ} {n : ℕ} {x : TableId} {ts : List Table} {left : 
     pub next-less : getD chain ((left - 1) * 2 + 1) 0 < left
     next-less = omega (arith, here .count, from-latest x (here .chained) .upto, from-latest x (here .chained) .count, here .next)
 
-    module _ {y : TableId} (e : y .0 ≡ take 16 (drop (getD chain ((left - 1) * 2) 0) s)) {q : Bool} (f : q ≡ sameTableId x y) where
+    module _ {y : TableId} (e : y .0 ≡ take 16 (drop (getD chain ((left - 1) * 2) 0) s)) {o : Order} (f : o ≡ cmpKey (x .0) (y .0)) {q : Bool} (d : q ≡ isEqual o) where
       test : sameTableId x (here .id) ≡ q
-      test = sym (f ∙ rw (e, here .is))
+      test = sym (d ∙ rw (f, e, here .is))
 
       pub found-kept : q ≡ true → true ≡ idAmong x ts
       found-kept g = sym (among-all x ts ∙ here .same ∙ rw (test, g))

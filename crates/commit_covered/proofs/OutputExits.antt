@@ -50,16 +50,13 @@ module _ {slots₀ slots : List ℕ} {i : ℕ} (p : Clearing slots₀ slots i) w
       go e k true q = rw (eqb-true e i q) (getD-set-same slots i 0 0 h)
       go e k false q = getD-set-other slots i e 0 0 (eqb-false e i q) ∙ p .zeros e (omega (arith, eqb-false e i q))
 
-  pub clear-length : length slots ≡ length slots₀
-  clear-length = p .same
-
   pub clear-end : length slots ≤ i → Cleared slots₀ slots
   clear-end h = record { same-length = p .same; zero = λ e k. p .zeros e (omega (arith, p .same)) }
 
 pub clear-less : (slots : List ℕ) (i : ℕ) → i < length slots → length (set slots i 0) - (i + 1) < length slots - i
 clear-less slots i h = rw length-set (omega arith)
 
-pub ruleset clear-exits = (clear-begin, clear-less, clear-turn, clear-length, clear-end)
+pub ruleset clear-exits = (clear-begin, clear-less, clear-turn, clear-end)
 
 -- ---- keep_part
 entry-alike : (n : ℕ) (x y : TableId) → x .0 ≡ y .0 → entryOf n x ≡ entryOf n y
@@ -91,12 +88,6 @@ module _ {s : List ℕ} {first m k : ℕ} {chain₀ slots₀ chain slots : List 
       let z : seen ≡ m = omega (arith, p .walk .upto) in
       record { kept = rw z at (p .kept); chain-length = p .chain-length; slots-length = p .slots-length }
 
-  pub keeping-chain : length chain ≡ length chain₀
-  keeping-chain = p .chain-length
-
-  pub keeping-slots : length slots ≡ length slots₀
-  keeping-slots = p .slots-length
-
   module _ (h : seen < m) where
     pub keeping-here : T (isGot (table .read (drop at s)))
     keeping-here = walk-here (p .walk) h
@@ -122,9 +113,6 @@ module _ {s : List ℕ} {first m k : ℕ} {chain₀ slots₀ chain slots : List 
 
       pub keeping-room : (k + seen) * 2 + 2 ≤ length chain
       keeping-room = omega (arith, below-all, p .room .enough)
-
-      pub keeping-slot : 0 < length slots
-      keeping-slot = p .kept .ids .some-slot
 
       pub keeping-inside : t .id + 16 ≤ length s
       keeping-inside = f .inside .id
@@ -155,7 +143,7 @@ module _ {s : List ℕ} {first m k : ℕ} {chain₀ slots₀ chain slots : List 
               slots-length = sl ∙ p .slots-length;
             }
 
-pub ruleset part-exits = (keeping, keeping-all, keeping-chain, keeping-slots, keeping-here, keeping-fits, keeping-room, keeping-slot, keeping-inside, keeping-on)
+pub ruleset part-exits = (keeping, keeping-all, keeping-here, keeping-fits, keeping-room, keeping-inside, keeping-on)
 
 -- ---- keep_outputs
 pub none-kept-yet : {slots₀ slots : List ℕ} (s chain : List ℕ) → Cleared slots₀ slots → 0 < length slots₀ → SomeKept s 0 chain slots
@@ -195,18 +183,15 @@ record PartHere (s : List ℕ) (i : ℕ) (r : PartSpan) : Type 0 where
   held : PartHeld s part r
 
 module _ {s parts : List ℕ} {n : ℕ} {chain₀ slots₀ chain slots : List ℕ} {k i : ℕ} (p : PartsKept s parts n chain₀ slots₀ chain slots k i) where
-  pub parts-chain : length chain ≡ length chain₀
-  parts-chain = p .chain-length
-
   pub parts-slots : {slots₁ : List ℕ} → Cleared slots₁ slots₀ → length slots ≡ length slots₁
   parts-slots c = p .slots-length ∙ c .same-length
 
-  pub parts-all : {slots₁ : List ℕ} → Cleared slots₁ slots₀ → n ≤ i → AllKept s chain₀ slots₁ chain slots k
+  pub parts-all : {slots₁ : List ℕ} → Cleared slots₁ slots₀ → n ≤ i → AllKept s chain₀ slots₁ chain slots
   parts-all c h =
       let a : take i (jobOf s .parts) ≡ jobOf s .parts = take-all i (jobOf s .parts) (omega (arith, p .held .count)) in
       let z : k ≡ length (outputs (jobOf s .parts)) = p .count ∙ ap (λ l. length (outputs l)) a in
       let w : take k (outputs (jobOf s .parts)) ≡ outputs (jobOf s .parts) = take-all k (outputs (jobOf s .parts)) (omega (arith, z)) in
-      record { count = z; kept = rw w at (p .kept .ids); chain-length = p .chain-length; slots-length = parts-slots c }
+      record { kept = rw w at (p .kept .ids); chain-length = p .chain-length; slots-length = parts-slots c }
 
   module _ (h : i < n) where
     pub part-room : i * 10 + 10 ≤ length parts
@@ -250,12 +235,6 @@ module _ {s parts : List ℕ} {n : ℕ} {chain₀ slots₀ chain slots : List �
             are = from-here ∙ rest-outputs ∙ rw (q, after-here);
           }
 
-      pub parts-room : Room s chain
-      parts-room = p .room
-
-      pub parts-kept : SomeKept s k chain slots
-      parts-kept = p .kept
-
       more-count : k + r .outputs ≡ length (outputs (take (i + 1) (jobOf s .parts)))
       unfolding flatMap
       more-count =
@@ -278,4 +257,4 @@ module _ {s parts : List ℕ} {n : ℕ} {chain₀ slots₀ chain slots : List �
       pub kept-fits : {chain′ slots′ : List ℕ} → MoreKept s (k + r .outputs) chain slots chain′ slots′ → length s < 2 ^ 64 → Fits w64 (k + r .outputs)
       kept-fits w l = omega (arith, w .kept .upto, few-outputs s)
 
-pub ruleset outputs-exits = (parts-begin, parts-chain, parts-slots, parts-all, part-room, part-outputs, parts-room, parts-kept, parts-on, kept-fits)
+pub ruleset outputs-exits = (parts-begin, parts-slots, parts-all, part-room, part-outputs, parts-on, kept-fits)

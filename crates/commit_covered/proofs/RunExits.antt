@@ -6,7 +6,7 @@ use mathlib.Core.Path.{_≡_, refl, sym, ap, _∙_}
 use mathlib.Core.Bool.{Bool, true, false, not, _&&_, _||_}
 use mathlib.Core.List.{List, [], _∷_}
 use lib.Dec.{eqb}
-use lib.ListN.{length, drop, drop-of-length-le}
+use lib.ListN.{drop, drop-of-length-le}
 use mir.Val.{Fits}
 use mir.Syntax.{w64}
 use borrow.Author.Tests.{eq-eqb, ne-eqb}
@@ -17,29 +17,15 @@ use Rattle.records.specs.Found.{valuesOf}
 use Rattle.records.specs.Values.{Run, Image, Job}
 use Rattle.records.specs.Layouts.{view}
 use Rattle.manifest.specs.Checks.{all, tablePasses, ascend, starts, imageChecks}
-use Rattle.commit_index.specs.Index.{imageOf, IndexHold, IndexedFound}
+use Rattle.commit_index.specs.Index.{imageOf, IndexedFound}
 use Rattle.commit_index.specs.declared.runs.IndexedRun.{IndexedRun}
 use Rattle.incremental_progress.proofs.Checks.{all-each}
-use Rattle.commit_durable.specs.Tables.{jobOf, jobGaps, GapsHold}
-use Rattle.commit_gaps.specs.Ordered.{GapsOrdered}
+use Rattle.commit_durable.specs.Tables.{jobOf, jobGaps}
 use Rattle.commit_gaps.proofs.Places.{all-at}
 use Rattle.commit_covered.specs.Covered.{ViewsHere, viewsCovered, coveredBy}
-use Rattle.commit_covered.specs.Runs.{CoverReady, runCovered}
+use Rattle.commit_covered.specs.Runs.{CoverReady}
 use Rattle.commit_covered.specs.declared.runs.CoverHead.{CoverHead}
 
--- ---- run_covered
-module _ (given s : List ℕ) (y : IndexedRun) {n : ℕ} where
-  pub destination-is : {b : Bool} → y .id ≡ n → b ≡ viewsCovered (jobGaps s) (jobOf s .parts) (valuesOf (readMany (view .read) (y .views) (drop (y .first) given))) → b ≡ runCovered given s n y
-  unfolding runCovered
-  destination-is e q = rw (eq-eqb (y .id) n e) q
-
-  pub another-is : (y .id ≡ n → ⊥) → true ≡ runCovered given s n y
-  unfolding runCovered
-  another-is e = rw (ne-eqb (y .id) n e)
-
-pub ruleset run-exits = (destination-is, another-is)
-
--- ---- runs_covered
 covered-none : (gs : List Range) (j : Job) → coveredBy gs [] j ≡ true
 unfolding coveredBy all
 covered-none gs j = refl
@@ -57,15 +43,6 @@ pub runs-begin : (given s index gap-table : List ℕ) (h : CoverHead) → CoverR
 runs-begin given s index gap-table h p = record { ready = p; same = refl }
 
 module _ {given s index gap-table : List ℕ} {h : CoverHead} {k : ℕ} (x : RunsSeen given s index gap-table h k) where
-  pub runs-hold : IndexHold given (h .runs) index
-  runs-hold = x .ready .runs
-
-  pub runs-gaps : GapsHold s (h .gaps) gap-table
-  runs-gaps = x .ready .gaps
-
-  pub runs-ordered : GapsOrdered s
-  runs-ordered = x .ready .ordered
-
   pub runs-all : h .runs ≤ k → true ≡ coveredBy (jobGaps s) (imageOf given) (jobOf s)
   runs-all l =
       let d : drop k (imageOf given) ≡ [] = drop-of-length-le (imageOf given) {i = k} (omega (arith, x .ready .runs .count)) in
@@ -92,22 +69,24 @@ module _ {given s index gap-table : List ℕ} {h : CoverHead} {k : ℕ} (x : Run
             order = rw views-are (passes (λ r. ascend (starts (r .views))) (and-first _ _ (x .ready .order)));
           }
 
-      module _ {b : Bool} (q : b ≡ runCovered given s (h .destination) y) where
-        run-is : b ≡ (not (eqb (f .run .id) (jobOf s .destination)) || viewsCovered (jobGaps s) (jobOf s .parts) (f .run .views))
-        unfolding runCovered
-        run-is = rw (views-are, f .held .id, x .ready .destination) at q
+      here : coveredBy (jobGaps s) (imageOf given) (jobOf s) ≡ ((not (eqb (y .id) (h .destination)) || viewsCovered (jobGaps s) (jobOf s .parts) (f .run .views)) && coveredBy (jobGaps s) (drop (k + 1) (imageOf given)) (jobOf s))
+      here =
+          x .same
+          ∙ ap (λ (i : Image). coveredBy (jobGaps s) i (jobOf s)) (f .is)
+          ∙ covered-cons (jobGaps s) (f .run) (drop (k + 1) (imageOf given)) (jobOf s)
+          ∙ rw (f .held .id, x .ready .destination)
 
-        here : coveredBy (jobGaps s) (imageOf given) (jobOf s) ≡ (b && coveredBy (jobGaps s) (drop (k + 1) (imageOf given)) (jobOf s))
-        here =
-            x .same
-            ∙ ap (λ (i : Image). coveredBy (jobGaps s) i (jobOf s)) (f .is)
-            ∙ covered-cons (jobGaps s) (f .run) (drop (k + 1) (imageOf given)) (jobOf s)
-            ∙ ap (λ (c : Bool). c && coveredBy (jobGaps s) (drop (k + 1) (imageOf given)) (jobOf s)) (sym run-is)
+      pub runs-other : (y .id ≡ h .destination → ⊥) → RunsSeen given s index gap-table h (k + 1)
+      runs-other e = record { ready = x .ready; same = here ∙ rw (ne-eqb (y .id) (h .destination) e) }
+
+      module _ (e : y .id ≡ h .destination) {b : Bool} (q : b ≡ viewsCovered (jobGaps s) (jobOf s .parts) (valuesOf (readMany (view .read) (y .views) (drop (y .first) given)))) where
+        run-is : viewsCovered (jobGaps s) (jobOf s .parts) (f .run .views) ≡ b
+        run-is = sym (q ∙ rw views-are)
 
         pub runs-left : b ≡ false → false ≡ coveredBy (jobGaps s) (imageOf given) (jobOf s)
-        runs-left z = sym (here ∙ rw z)
+        runs-left z = sym (here ∙ rw (eq-eqb (y .id) (h .destination) e, run-is, z))
 
         pub runs-onward : b ≡ true → RunsSeen given s index gap-table h (k + 1)
-        runs-onward z = record { ready = x .ready; same = here ∙ rw z }
+        runs-onward z = record { ready = x .ready; same = here ∙ rw (eq-eqb (y .id) (h .destination) e, run-is, z) }
 
-pub ruleset runs-exits = (runs-begin, runs-hold, runs-gaps, runs-ordered, runs-all, runs-next, runs-views, runs-left, runs-onward)
+pub ruleset runs-exits = (runs-begin, runs-all, runs-next, runs-views, runs-other, runs-left, runs-onward)

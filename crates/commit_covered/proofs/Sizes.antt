@@ -2,7 +2,7 @@
 -- Assumes nothing.
 use Prim.Native.Nat.{ℕ, zero, suc, _+_, _-_, _*_, _≤_}
 use native.Mathlib.Omega.{arith}
-use mathlib.Core.Path.{_≡_, refl, sym, ap}
+use mathlib.Core.Path.{_≡_, refl, ap}
 use mathlib.Core.Bool.{Bool, true, false}
 use mathlib.Core.List.{List, [], _∷_, flatMap}
 use lib.Dec.{leb}
@@ -105,18 +105,16 @@ seq-takes :
 seq-takes f g c d hf hg l p r e =
     let x = came (f l) _ p r e in
     let y = came (g (x .value) (x .rest)) _ p r (x .second) in
-    let z : (x .value, y .value) ≡ p = cc in
+    let z : p ≡ (x .value, y .value) = cc in
     let w : y .rest ≡ r = cc in
-    let v : c (p .0) + d (p .1) ≡ c (x .value) + d (y .value) = sym (ap (λ q. c (q .0) + d (q .1)) z) in
-    omega (arith, v, hf l (x .value) (x .rest) (x .first), hg (x .value) (x .rest) (y .value) (y .rest) (y .first), ap length w)
+    omega (arith, ap (λ q. c (q .0) + d (q .1)) z, hf l (x .value) (x .rest) (x .first), hg (x .value) (x .rest) (y .value) (y .rest) (y .first), ap length w)
 
 named-takes : {A B : Type 0} (to : A → B) (f : List ℕ → Got A) (c : A → ℕ) (d : B → ℕ) → Takes f c → ((a : A) → d (to a) ≤ c a) → Takes (λ l. andThen (f l) (λ a r. got (to a) r)) d
 named-takes to f c d hf le l b r e =
     let x = came (f l) _ b r e in
-    let z : to (x .value) ≡ b = cc in
+    let z : b ≡ to (x .value) = cc in
     let w : x .rest ≡ r = cc in
-    let v : d b ≡ d (to (x .value)) = sym (ap d z) in
-    omega (arith, v, le (x .value), hf l (x .value) (x .rest) (x .first), ap length w)
+    omega (arith, ap d z, le (x .value), hf l (x .value) (x .rest) (x .first), ap length w)
 
 optional-takes : {A : Type 0} (f : Form A) (c : A → ℕ) (b : Bool) → Takes (f .read) c → Takes (readIf f b) (λ o. 0)
 unfolding readIf
@@ -139,10 +137,9 @@ many-takes f c zero h l a r e =
 many-takes f c (suc n) h l a r e =
     let x = came (f l) _ a r e in
     let y = came (readMany f n (x .rest)) _ a r (x .second) in
-    let z : x .value ∷ y .value ≡ a = cc in
+    let z : a ≡ x .value ∷ y .value = cc in
     let w : y .rest ≡ r = cc in
-    let v : sum c a ≡ c (x .value) + sum c (y .value) = sym (ap (sum c) z) in
-    omega (arith, v, h l (x .value) (x .rest) (x .first), many-takes f c n h (x .rest) (y .value) (y .rest) (y .first), ap length w)
+    omega (arith, ap (sum c) z, h l (x .value) (x .rest) (x .first), many-takes f c n h (x .rest) (y .value) (y .rest) (y .first), ap length w)
 
 counted-takes : {A : Type 0} (count : Form ℕ) (f : Form A) (k : ℕ) (c : A → ℕ) → Takes (count .read) (λ n. k) → Takes (f .read) c → Takes (counted count f .read) (sum c)
 counted-takes count f k c hc hf =

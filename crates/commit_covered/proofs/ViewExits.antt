@@ -6,21 +6,20 @@ use mathlib.Core.Path.{_≡_, refl, sym, ap, _∙_}
 use mathlib.Core.Bool.{Bool, true, false, not, _&&_, _||_}
 use mathlib.Core.List.{List, [], _∷_, _++_}
 use lib.Dec.{T}
-use lib.ListN.{length, take, drop, drop-of-length-le}
+use lib.ListN.{take, drop, drop-of-length-le}
 use lib.Seq.{drop-drop, drop-at}
 use Rattle.base.specs.Lists.{All, All-map, All-of}
-use Rattle.comparable_range.specs.Range.{Bound, Range}
+use Rattle.comparable_range.specs.Range.{Range}
 use Rattle.comparable_range.specs.Cut.{_≼_}
-use Rattle.format.specs.Range.{boundIn, rangeIn, BoundInside}
+use Rattle.format.specs.Range.{boundIn, rangeIn}
 use Rattle.format.specs.declared.span.RangeSpan.{RangeSpan}
 use Rattle.records.specs.Form.{readMany}
 use Rattle.records.specs.Found.{isGot, valuesOf}
 use Rattle.records.specs.Values.{Table, View, Part}
 use Rattle.records.specs.Layouts.{view}
-use Rattle.records.specs.Spans.{tableIn, TableInside, viewIn, ViewInside}
+use Rattle.records.specs.Spans.{viewIn}
 use Rattle.records.specs.There.{ViewThere}
 use Rattle.records.specs.declared.ids.TableId.{TableId}
-use Rattle.records.specs.declared.tables.TableSpan.{TableSpan}
 use Rattle.records.specs.declared.views.ViewSpan.{ViewSpan}
 use Rattle.records.proofs.Walk.{Walk, walk-begin, walk-all, walk-here, walk-ahead, walk-onward}
 use Rattle.manifest.specs.Laws.{StartsHeld}
@@ -42,9 +41,7 @@ use Rattle.commit_gaps.specs.declared.next.NextPiece.the-variants.{None, At}
 use Rattle.commit_gaps.proofs.Places.{all-at, pairs-at}
 use Rattle.commit_gaps.proofs.Passing.{behind-later}
 use Rattle.commit_gaps.proofs.Uses.{reached-pieces}
-use Rattle.commit_covered.specs.declared.covered.InGaps.{InGaps}
-use Rattle.commit_covered.specs.declared.covered.InGaps.the-variants.{Something, Nothing}
-use Rattle.commit_covered.specs.Covered.{InGapsIs, left, none-left, ViewsHere, coveredIn, viewsCovered}
+use Rattle.commit_covered.specs.Covered.{ViewsHere, coveredIn, viewsCovered}
 use Rattle.commit_covered.specs.Kept.{idAmong}
 
 -- ---- one view
@@ -70,65 +67,7 @@ next-piece (a-piece p) = p
 abbrev viewsAt : List ℕ → ℕ → ℕ → List View
 viewsAt s first n = valuesOf (readMany (view .read) n (drop first s))
 
--- ---- is_output
-pub output-place : {s : List ℕ} {t : TableSpan} → TableInside s t → t .id + 16 ≤ length s
-output-place p = p .id
-
-pub output-is :
-    (s : List ℕ) (t : TableSpan) (ps : List Part) {x : TableId} {q : Bool}
-    → x .0 ≡ take 16 (drop (t .id) s)
-    → q ≡ idAmong x (outputs ps)
-    → q ≡ isOutput ps (tableIn s t)
-unfolding isOutput
-output-is s t ps {x} e i = i ∙ among-id x (tableIn s t) e (outputs ps)
-
-pub ruleset output-exits = (output-place, output-is)
-
--- ---- view_in_gaps
-module _ {s : List ℕ} {v : ViewSpan} {r : RangeSpan} (w : EffectiveFound s v r) where
-  start-is : boundIn s (r .start) ≡ effective (viewIn s v) .start
-  start-is = ap (λ (k : Range). k .start) (w .meaning)
-
-  pub shown-start : BoundInside s (r .start)
-  shown-start = w .start
-
-  pub shown-inside : Inside s r
-  shown-inside = record { start = w .start; end = w .end }
-
-  pub shown-held : tablePasses (viewIn s v) ≡ true → StartsHeld (rangeIn s (r .start) (r .end))
-  shown-held h = rw (w .meaning) (effective-start-is-held (viewIn s v) h)
-
-  module _ {job : List ℕ} {m : ℕ} where
-    pub shown-upto : {g : ℕ} → Reached (effective (viewIn s v) .start) job m g → g ≤ m
-    shown-upto p = p .upto
-
-    pub shown-behind : {g : ℕ} → Reached (effective (viewIn s v) .start) job m g → Behind (boundIn s (r .start)) (take g (jobGaps job))
-    shown-behind p = rw start-is (p .behind)
-
-    module _ {d : ℕ} (y : Reached (boundIn s (r .start)) job m d) {o : NextPiece} (u : NextFound job (rangeIn s (r .start) (r .end)) m d o) where
-      left-is : coveredIn (jobGaps job) (viewIn s v) ≡ nothingLeft (pieces (drop d (jobGaps job)) (rangeIn s (r .start) (r .end)))
-      unfolding coveredIn
-      left-is = rw (← (w .meaning)) (ap nothingLeft (reached-pieces (rangeIn s (r .start) (r .end)) y))
-
-      pub shown-left : {k next : ℕ} {b : RangeSpan} {c : Piece} → o ≡ At k next b c → InGapsIs job m (viewIn s v) Something
-      shown-left a = left (left-is ∙ rw (next-piece (rw a at u) .pieces-are))
-
-      pub shown-none : o ≡ None → InGapsIs job m (viewIn s v) (Nothing d)
-      shown-none a = none-left (left-is ∙ rw (next-none (rw a at u) .none-left)) (rw start-is at y)
-
--- what `next_piece` asks for of what `first_gap` answers
-pub reached-upto : {b : Bound} {job : List ℕ} {m d : ℕ} → Reached b job m d → d ≤ m
-reached-upto y = y .upto
-
-pub ruleset gap-exits = (shown-start, shown-inside, shown-held, shown-upto, shown-behind, shown-left, shown-none, reached-upto)
-
 -- ---- views_covered
-something-left : {job : List ℕ} {m : ℕ} {v : View} → InGapsIs job m v Something → coveredIn (jobGaps job) v ≡ false
-something-left (left c) = c
-
-nothing-left : {job : List ℕ} {m g : ℕ} {v : View} → InGapsIs job m v (Nothing g) → (coveredIn (jobGaps job) v ≡ true) × Reached (effective v .start) job m g
-nothing-left (none-left c y) = (c, y)
-
 pub record ViewsSeen (s : List ℕ) (first n : ℕ) (job : List ℕ) (m g seen at : ℕ) : Type 0 where
   pub vs : List View
   pub walk : Walk (view .read) s first n seen at vs
@@ -167,14 +106,8 @@ module _ {s : List ℕ} {first n : ℕ} {job : List ℕ} {m g seen at : ℕ} (p 
           let r : drop (seen + 1) (viewsAt s first n) ≡ w .tail = sym (drop-drop 1 seen (viewsAt s first n)) ∙ ap (drop 1) d in
           d ∙ ap (λ l. viewIn s v ∷ l) (sym r)
 
-      pub seen-inside : ViewInside s v
-      seen-inside = f .inside
-
-      pub seen-table : TableInside s (v .table)
-      seen-table = f .inside .table
-
-      pub seen-passes : tablePasses (viewIn s v) ≡ true
-      seen-passes = all-at (λ w. tablePasses w ≡ true) seen (viewsAt s first n) (all-each tablePasses (viewsAt s first n) (p .here .tables)) next-is
+      passes : tablePasses (viewIn s v) ≡ true
+      passes = all-at (λ w. tablePasses w ≡ true) seen (viewsAt s first n) (all-each tablePasses (viewsAt s first n) (p .here .tables)) next-is
 
       -- the walk, with another gap
       onward :
@@ -200,27 +133,46 @@ module _ {s : List ℕ} {first n : ℕ} {job : List ℕ} {m g seen at : ℕ} (p 
       behind-here : All (λ w. Behind (effective w .start) (take g (jobGaps job))) (viewIn s v ∷ drop (seen + 1) (viewsAt s first n))
       behind-here = rw next-is at (p .behind)
 
-      pub seen-reached : Reached (effective (viewIn s v) .start) job m g
-      seen-reached = record { upto = p .upto; behind = behind-here .0 }
+      -- the range that the view shows
+      module _ {r : RangeSpan} (w : EffectiveFound s v r) where
+        start-is : boundIn s (r .start) ≡ effective (viewIn s v) .start
+        start-is = ap (λ (k : Range). k .start) (w .meaning)
 
-      module _ {q : Bool} (i : q ≡ isOutput (jobOf job .parts) (viewIn s v .table)) where
+        pub shown-inside : Inside s r
+        shown-inside = record { start = w .start; end = w .end }
+
+        pub shown-held : StartsHeld (rangeIn s (r .start) (r .end))
+        shown-held = rw (w .meaning) (effective-start-is-held (viewIn s v) passes)
+
+        pub shown-behind : Behind (boundIn s (r .start)) (take g (jobGaps job))
+        shown-behind = rw start-is (behind-here .0)
+
+      module _ {x : TableId} (e : x .0 ≡ take 16 (drop (v .table .id) s)) {q : Bool} (i : q ≡ idAmong x (outputs (jobOf job .parts))) where
+        output-is : isOutput (jobOf job .parts) (viewIn s v .table) ≡ q
+        unfolding isOutput
+        output-is = sym (i ∙ among-id x (viewIn s v .table) e (outputs (jobOf job .parts)))
+
         pub seen-other : q ≡ false → ViewsSeen s first n job m g (seen + 1) (v .past)
-        seen-other z = onward (p .upto) (behind-here .1) (rw (← i, z))
+        seen-other z = onward (p .upto) (behind-here .1) (rw (output-is, z))
 
-        module _ (z : q ≡ true) {o : InGaps} (u : InGapsIs job m (viewIn s v) o) where
-          pub seen-left : o ≡ Something → false ≡ viewsCovered (jobGaps job) (jobOf job .parts) (valuesOf (readMany (view .read) n (drop first s)))
+        module _ (z : q ≡ true) {r : RangeSpan} (w : EffectiveFound s v r) {d : ℕ} (y : Reached (boundIn s (r .start)) job m d) {o : NextPiece} (u : NextFound job (rangeIn s (r .start) (r .end)) m d o) where
+          left-is : coveredIn (jobGaps job) (viewIn s v) ≡ nothingLeft (pieces (drop d (jobGaps job)) (rangeIn s (r .start) (r .end)))
+          unfolding coveredIn
+          left-is = rw (← (w .meaning)) (ap nothingLeft (reached-pieces (rangeIn s (r .start) (r .end)) y))
+
+          pub seen-left : {k next : ℕ} {b : RangeSpan} {c : Piece} → o ≡ At k next b c → false ≡ viewsCovered (jobGaps job) (jobOf job .parts) (valuesOf (readMany (view .read) n (drop first s)))
           seen-left a =
-              let c = something-left (rw a at u) in
-              sym (p .same ∙ ap (viewsCovered (jobGaps job) (jobOf job .parts)) next-is ∙ covered-cons (jobGaps job) (jobOf job .parts) (viewIn s v) (drop (seen + 1) (viewsAt s first n)) ∙ rw (← i, z, c))
+              let c : coveredIn (jobGaps job) (viewIn s v) ≡ false = left-is ∙ rw (next-piece (rw a at u) .pieces-are) in
+              sym (p .same ∙ ap (viewsCovered (jobGaps job) (jobOf job .parts)) next-is ∙ covered-cons (jobGaps job) (jobOf job .parts) (viewIn s v) (drop (seen + 1) (viewsAt s first n)) ∙ rw (output-is, z, c))
 
           later : All (λ b. start (viewIn s v) ≼ start b) (drop (seen + 1) (viewsAt s first n))
           later = pairs-at (λ a b. start a ≼ start b) seen (viewsAt s first n) (sorted (viewsAt s first n) (p .here .order)) next-is
 
-          pub seen-covered : {d : ℕ} → o ≡ Nothing d → ViewsSeen s first n job m d (seen + 1) (v .past)
-          seen-covered {d} a =
-              let t = nothing-left (rw a at u) in
-              onward (t .1 .upto)
-              (All-map (λ k l. behind-later (effective (viewIn s v) .start) (effective k .start) (take d (jobGaps job)) l (t .1 .behind)) (drop (seen + 1) (viewsAt s first n)) later)
-              (rw (← i, z, t .0))
+          pub seen-covered : o ≡ None → ViewsSeen s first n job m d (seen + 1) (v .past)
+          seen-covered a =
+              let c : coveredIn (jobGaps job) (viewIn s v) ≡ true = left-is ∙ rw (next-none (rw a at u) .none-left) in
+              onward (y .upto)
+              (All-map (λ k l. behind-later (effective (viewIn s v) .start) (effective k .start) (take d (jobGaps job)) l (rw (start-is w) at (y .behind))) (drop (seen + 1) (viewsAt s first n)) later)
+              (rw (output-is, z, c))
 
-pub ruleset view-exits = (seen-none, seen-all, seen-here, seen-inside, seen-table, seen-passes, seen-reached, seen-other, seen-left, seen-covered)
+pub ruleset view-exits = (seen-none, seen-all, seen-here, shown-inside, shown-held, shown-behind, seen-other, seen-left, seen-covered)

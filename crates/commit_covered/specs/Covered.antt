@@ -1,7 +1,7 @@
 -- Check 12 by gaps: nothing of a destination view of an output table lies in a gap between durable intervals.
 use Prim.Native.Nat.{ℕ, _≤_}
 use mathlib.Core.Path.{_≡_}
-use mathlib.Core.Bool.{Bool, true, false, not, _||_}
+use mathlib.Core.Bool.{Bool, true, not, _||_}
 use mathlib.Core.List.{List}
 use lib.Dec.{T, eqb}
 use lib.ListN.{length, drop}
@@ -15,10 +15,6 @@ use Rattle.manifest.specs.Checks.{all, tablePasses, ascend, starts}
 use Rattle.incremental_progress.specs.Gaps.{pieces}
 use Rattle.incremental_progress.specs.Checks.{nothingLeft}
 use Rattle.incremental_progress.specs.Jobs.{isOutput}
-use Rattle.commit_durable.specs.Tables.{jobGaps}
-use Rattle.commit_gaps.specs.Found.{Reached}
-use Rattle.commit_covered.specs.declared.covered.InGaps.{InGaps}
-use Rattle.commit_covered.specs.declared.covered.InGaps.the-variants.{Something, Nothing}
 
 -- n views of a run stand at a place of the image s, and pass the checks 5 and 6
 pub record ViewsHere (s : List ℕ) (first n : ℕ) : Type 0 where
@@ -30,11 +26,6 @@ pub record ViewsHere (s : List ℕ) (first n : ℕ) : Type 0 where
 -- nothing of the view lies in a gap
 unfoldable pub coveredIn : List Range → View → Bool
 coveredIn gs v = nothingLeft (pieces gs (effective v))
-
--- what `view_in_gaps` answers of a view, of m gaps of the job s
-pub data InGapsIs (s : List ℕ) (m : ℕ) (v : View) : InGaps → Type 0 where
-  left : coveredIn (jobGaps s) v ≡ false → InGapsIs s m v Something
-  none-left : {g : ℕ} → coveredIn (jobGaps s) v ≡ true → Reached (effective v .start) s m g → InGapsIs s m v (Nothing g)
 
 -- of the views of one run
 unfoldable pub viewsCovered : List Range → List Part → List View → Bool

@@ -81,8 +81,7 @@ pub record MoreKept (s : List ℕ) (k : ℕ) (chain slots chain′ slots′ : Li
   pub slots-length : length slots′ ≡ length slots
 
 -- all of them
-pub record AllKept (s chain slots chain′ slots′ : List ℕ) (k : ℕ) : Type 0 where
-  pub count : k ≡ length (outputs (jobOf s .parts))
+pub record AllKept (s chain slots chain′ slots′ : List ℕ) : Type 0 where
   pub kept : IdsKept s (outputs (jobOf s .parts)) chain′ slots′
   pub chain-length : length chain′ ≡ length chain
   pub slots-length : length slots′ ≡ length slots

@@ -4,7 +4,6 @@ use records::TableId;
 ghost use mathlib.Core.Path.{_≡_};
 ghost use Prim.Native.Nat.{_+_, _*_, _≤_, _<_};
 ghost use lib.ListN.{length, getD, set};
-ghost use Rattle.incremental_progress.specs.Ids.{sameTableId};
 ghost use Rattle.incremental_progress.specs.Jobs.{outputs};
 ghost use Rattle.commit_durable.specs.Tables.{jobOf};
 ghost use Rattle.commit_covered.specs.Kept.{entryOf, idAmong, IdsKept};
@@ -18,14 +17,6 @@ fn entry(id: TableId, n: usize) -> usize
     let head = key::word(&bytes, 0);
     let tail = key::word(&bytes, 8);
     (head % 8161 + tail % 8147) as usize % n
-}
-
-fn same(a: TableId, b: TableId) -> bool
-    ensures { λ r. ⌜ r ≡ sameTableId a b ⌝ }
-{
-    let x = a.0;
-    let y = b.0;
-    key::is_equal(key::cmp(&x, &y))
 }
 
 // Keeps the id of output k, which stands at a place of the job.
@@ -51,8 +42,9 @@ pub fn is_kept(job: &[u8], chain: &[usize], slots: &[usize], id: TableId) -> boo
     let mut left = slots[e];
     while 0 < left {
         let row = (left - 1) * 2;
-        let place = chain[row];
-        if same(id, records::table_id_at(job, place)) {
+        let wanted = id.0;
+        let other = records::table_id_at(job, chain[row]).0;
+        if key::is_equal(key::cmp(&wanted, &other)) {
             return true;
         }
         left = chain[row + 1];

@@ -38,16 +38,10 @@ fn keep_part(job: &[u8], first: usize, m: usize, k: usize, chain: &mut [usize], 
     }
 }
 
-// Keeps the outputs of n parts, and answers how many they are.
-pub fn keep_outputs(
-    job: &[u8],
-    parts: &[usize],
-    n: usize,
-    chain: &mut [usize],
-    slots: &mut [usize],
-) -> usize
+// Keeps the outputs of n parts.
+pub fn keep_outputs(job: &[u8], parts: &[usize], n: usize, chain: &mut [usize], slots: &mut [usize])
     requires { ⌜ PartsHold (now job) n (now parts) ⌝ ∗ ⌜ Room (now job) (now chain) ⌝ ∗ ⌜ 0 < length (now slots) ⌝ }
-    ensures { λ r. ⌜ AllKept (now (job .entry)) (now (chain .entry)) (now (slots .entry)) (now (chain .exit)) (now (slots .exit)) r ⌝ }
+    ensures { λ _. ⌜ AllKept (now (job .entry)) (now (chain .entry)) (now (slots .entry)) (now (chain .exit)) (now (slots .exit)) ⌝ }
 {
     clear(slots);
     let mut k = 0;
@@ -59,5 +53,4 @@ pub fn keep_outputs(
         k += m;
         i += 1;
     }
-    k
 }

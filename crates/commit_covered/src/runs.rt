@@ -1,17 +1,14 @@
 // Check 12 of all runs of an image.
 use crate::covered::views_covered;
 use crate::outputs::keep_outputs;
-use commit_index::IndexedRun;
 ghost use mathlib.Core.Path.{_≡_};
 ghost use Prim.Native.Nat.{_<_};
 ghost use lib.ListN.{length};
 ghost use Rattle.commit_index.specs.Index.{imageOf};
-ghost use Rattle.incremental_progress.specs.Jobs.{outputs};
-ghost use Rattle.commit_durable.specs.Tables.{jobOf, jobGaps, PartsHold, GapsHold};
-ghost use Rattle.commit_gaps.specs.Ordered.{GapsOrdered};
-ghost use Rattle.commit_covered.specs.Covered.{ViewsHere, coveredBy};
-ghost use Rattle.commit_covered.specs.Kept.{Room, IdsKept};
-ghost use Rattle.commit_covered.specs.Runs.{runCovered, CoverReady};
+ghost use Rattle.commit_durable.specs.Tables.{jobOf, jobGaps, PartsHold};
+ghost use Rattle.commit_covered.specs.Covered.{coveredBy};
+ghost use Rattle.commit_covered.specs.Kept.{Room};
+ghost use Rattle.commit_covered.specs.Runs.{CoverReady};
 
 // The destination of the job, and how many parts, gaps and runs stand in the tables.
 pub struct CoverHead {
@@ -22,60 +19,6 @@ pub struct CoverHead {
 }
 
 // The views of the destination are covered; those of another run need not be.
-fn run_covered<'a>(
-    image: &'a [u8],
-    run: IndexedRun,
-    job: &'a [u8],
-    gaps: &[usize],
-    chain: &[usize],
-    slots: &[usize],
-    head: CoverHead,
-) -> bool
-    requires { ⌜ ViewsHere (now image) (run .first) (run .views) ⌝ ∗ ⌜ GapsHold (now job) (head .gaps) (now gaps) ⌝ }
-    requires { ⌜ GapsOrdered (now job) ⌝ ∗ ⌜ IdsKept (now job) (outputs (jobOf (now job) .parts)) (now chain) (now slots) ⌝ }
-    ensures { λ r. ⌜ r ≡ runCovered (now (image .entry)) (now (job .entry)) (head .destination) run ⌝ }
-{
-    if run.id == head.destination {
-        return views_covered(
-            image,
-            run.first,
-            run.views,
-            job,
-            gaps,
-            head.gaps,
-            chain,
-            slots,
-        );
-    }
-    true
-}
-
-// The ids of the job's outputs are kept.
-pub fn runs_covered<'a>(
-    image: &'a [u8],
-    job: &'a [u8],
-    index: &[usize],
-    gaps: &[usize],
-    chain: &[usize],
-    slots: &[usize],
-    head: CoverHead,
-) -> bool
-    requires { ⌜ CoverReady (now image) (now job) (now index) (now gaps) head ⌝ ∗ ⌜ IdsKept (now job) (outputs (jobOf (now job) .parts)) (now chain) (now slots) ⌝ }
-    ensures { λ r. ⌜ r ≡ coveredBy (jobGaps (now (job .entry))) (imageOf (now (image .entry))) (jobOf (now (job .entry))) ⌝ }
-{
-    let mut k = 0;
-    while k < head.runs {
-        let run = commit_index::indexed_run(image, index, head.runs, k);
-        if run_covered(image, run, job, gaps, chain, slots, head) {
-            k += 1;
-        } else {
-            return false;
-        }
-    }
-    true
-}
-
-// With the ids of the job's outputs still to be kept.
 pub fn image_covered<'a>(
     image: &'a [u8],
     job: &'a [u8],
@@ -92,5 +35,25 @@ pub fn image_covered<'a>(
     ensures { λ _. ⌜ length (now (chain .exit)) ≡ length (now (chain .entry)) ⌝ ∗ ⌜ length (now (slots .exit)) ≡ length (now (slots .entry)) ⌝ }
 {
     keep_outputs(job, parts, head.parts, chain, slots);
-    runs_covered(image, job, index, gaps, chain, slots, head)
+    let mut k = 0;
+    while k < head.runs {
+        let run = commit_index::indexed_run(image, index, head.runs, k);
+        k += 1;
+        if run.id == head.destination {
+            if views_covered(
+                image,
+                run.first,
+                run.views,
+                job,
+                gaps,
+                head.gaps,
+                chain,
+                slots,
+            ) {
+                continue;
+            }
+            return false;
+        }
+    }
+    true
 }

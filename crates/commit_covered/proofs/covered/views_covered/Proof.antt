@@ -1,7 +1,7 @@
 -- `commit_covered::covered::views_covered` meets its contract.
 -- Assumes nothing.
 use Prim.Native.Nat.{_-_}
-use Rattle.commit_covered.proofs.ViewExits.{ViewsSeen, seen-inside, seen-passes, seen-reached, view-exits}
+use Rattle.commit_covered.proofs.ViewExits.{ViewsSeen, shown-inside, shown-held, shown-behind, view-exits}
 use borrow.Author.Needs.{needs}
 use Rattle.commit_covered.proofs.covered.views_covered.Statement.{statement}
 use Rattle.commit_covered.proofs.covered.views_covered.Tie as tie
@@ -18,12 +18,23 @@ loop-holds c = search (needs, view-exits)
 view-there-requires : tie.Need-view-there-requires Inv-loop μ-loop
 view-there-requires c κs = search (needs, view-exits)
 
-is-output-requires : tie.Need-is-output-requires Inv-loop μ-loop
-is-output-requires c κs = search (needs, view-exits)
+add-seen : tie.Need-add-seen Inv-loop μ-loop
+add-seen c = search (needs, view-exits)
 
-view-in-gaps-requires : tie.Need-view-in-gaps-requires Inv-loop μ-loop
-view-in-gaps-requires c κs =
-    (search (needs, seen-inside), (search (needs, seen-passes), (search (needs, seen-reached), (search needs, search needs))))
+table-id-at-requires : tie.Need-table-id-at-requires Inv-loop μ-loop
+table-id-at-requires c κs = search (needs, view-exits)
+
+is-kept-requires : tie.Need-is-kept-requires Inv-loop μ-loop
+is-kept-requires c κs = search (needs, view-exits)
+
+effective-requires : tie.Need-effective-requires Inv-loop μ-loop
+effective-requires c κs = search (needs, view-exits)
+
+first-gap-requires : tie.Need-first-gap-requires Inv-loop μ-loop
+first-gap-requires c κs = (search needs, (c .before .before .before .before .before .before .before .before .before .before .before .before .pre .1 .0, (search needs, search (needs, shown-behind))))
+
+next-piece-requires : tie.Need-next-piece-requires Inv-loop μ-loop
+next-piece-requires c κs = (search (needs, shown-inside), (search (needs, shown-held), (c .before .before .before .before .before .before .before .before .before .before .before .before .before .pre .1 .0, (c .before .before .before .before .before .before .before .before .before .before .before .before .before .pre .1 .1 .0, search needs))))
 
 enum-told : tie.Need-enum-told Inv-loop μ-loop
 enum-told c = search (needs, view-exits)
@@ -31,20 +42,14 @@ enum-told c = search (needs, view-exits)
 returns : tie.Need-returns Inv-loop μ-loop
 returns c = search (needs, view-exits)
 
-enum-known-reached : tie.Need-enum-known-reached Inv-loop μ-loop
-enum-known-reached c = search (needs, view-exits)
-
-add-seen : tie.Need-add-seen Inv-loop μ-loop
-add-seen c = search (needs, view-exits)
+enum-told-2 : tie.Need-enum-told-2 Inv-loop μ-loop
+enum-told-2 c = search (needs, view-exits)
 
 loop-less : tie.Need-loop-less Inv-loop μ-loop
 loop-less c = search (needs, view-exits)
 
 loop-again : tie.Need-loop-again Inv-loop μ-loop
 loop-again c = search (needs, view-exits)
-
-add-seen-2 : tie.Need-add-seen-2 Inv-loop μ-loop
-add-seen-2 c = search (needs, view-exits)
 
 loop-less-2 : tie.Need-loop-less-2 Inv-loop μ-loop
 loop-less-2 c = search (needs, view-exits)
@@ -63,15 +68,17 @@ views-covered-spec =
     μ-loop
     loop-holds
     view-there-requires
-    is-output-requires
-    view-in-gaps-requires
+    add-seen
+    table-id-at-requires
+    is-kept-requires
+    effective-requires
+    first-gap-requires
+    next-piece-requires
     enum-told
     returns
-    enum-known-reached
-    add-seen
+    enum-told-2
     loop-less
     loop-again
-    add-seen-2
     loop-less-2
     loop-again-2
     returns-2)

@@ -3,7 +3,7 @@
 use lib.ListN.{length}
 use Rattle.incremental_progress.specs.Jobs.{outputs}
 use Rattle.commit_durable.specs.Tables.{jobOf}
-use Rattle.commit_covered.proofs.IdExits.{Looking, kept-exits}
+use Rattle.commit_covered.proofs.IdExits.{kept-exits, Looking}
 use borrow.Author.Needs.{needs}
 use Rattle.commit_covered.proofs.ids.is_kept.Statement.{statement}
 use Rattle.commit_covered.proofs.ids.is_kept.Tie as tie
@@ -32,17 +32,26 @@ sub-row c = search (needs, kept-exits)
 mul-row : tie.Need-mul-row Inv-loop μ-loop
 mul-row c = search (needs, kept-exits)
 
-mul-place : tie.Need-mul-place Inv-loop μ-loop
-mul-place c = search (needs, kept-exits)
+mul-table-id-at : tie.Need-mul-table-id-at Inv-loop μ-loop
+mul-table-id-at c = search (needs, kept-exits)
 
-shared-slice-read-place : tie.Need-shared-slice-read-place Inv-loop μ-loop
-shared-slice-read-place c = search (needs, kept-exits)
+shared-slice-read-table-id-at : tie.Need-shared-slice-read-table-id-at Inv-loop μ-loop
+shared-slice-read-table-id-at c = search (needs, kept-exits)
 
 table-id-at-requires : tie.Need-table-id-at-requires Inv-loop μ-loop
 table-id-at-requires c κs = search (needs, kept-exits)
 
-same-requires : tie.Need-same-requires Inv-loop μ-loop
-same-requires c κs = search (needs, kept-exits)
+slice-aggregate-cmp : tie.Need-slice-aggregate-cmp Inv-loop μ-loop
+slice-aggregate-cmp c = search (needs, kept-exits)
+
+slice-aggregate-cmp-2 : tie.Need-slice-aggregate-cmp-2 Inv-loop μ-loop
+slice-aggregate-cmp-2 c = search (needs, kept-exits)
+
+cmp-requires : tie.Need-cmp-requires Inv-loop μ-loop
+cmp-requires c κs = search (needs, kept-exits)
+
+is-equal-requires : tie.Need-is-equal-requires Inv-loop μ-loop
+is-equal-requires c κs = search (needs, kept-exits)
 
 returns : tie.Need-returns Inv-loop μ-loop
 returns c = search (needs, kept-exits)
@@ -77,10 +86,13 @@ is-kept-spec =
     loop-holds
     sub-row
     mul-row
-    mul-place
-    shared-slice-read-place
+    mul-table-id-at
+    shared-slice-read-table-id-at
     table-id-at-requires
-    same-requires
+    slice-aggregate-cmp
+    slice-aggregate-cmp-2
+    cmp-requires
+    is-equal-requires
     returns
     add-left
     mul-left-2

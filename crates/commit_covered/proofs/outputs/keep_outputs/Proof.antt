@@ -1,7 +1,7 @@
 -- `commit_covered::outputs::keep_outputs` meets its contract.
 -- Assumes nothing.
 use Prim.Native.Nat.{_-_}
-use Rattle.commit_covered.proofs.OutputExits.{PartsKept, outputs-exits}
+use Rattle.commit_covered.proofs.OutputExits.{outputs-exits, PartsKept}
 use borrow.Author.Needs.{needs}
 use Rattle.commit_covered.proofs.outputs.keep_outputs.Statement.{statement}
 use Rattle.commit_covered.proofs.outputs.keep_outputs.Tie as tie
