@@ -1,44 +1,10 @@
 // The commit of a compaction's record, from image to image.
 use base::Written;
-use commit_durable::JobJudged;
 use commit_index::Indexed;
 ghost use mathlib.Core.Path.{_≡_};
-ghost use Prim.Native.Nat.{_≤_};
 ghost use lib.ListN.{length};
 ghost use Rattle.base.specs.Outcome.{lent, reported};
-ghost use Rattle.commit_index.specs.Index.{ImageTold};
 ghost use Rattle.incremental_progress.specs.Commit.{commitOutcome};
-
-// A commit to an image that was read: its n runs stand in a table, and the first of the checks 4 to 7 that it fails is known.
-fn commit_job<'a>(
-    image: &'a [u8],
-    job: &'a [u8],
-    ids: &[u8],
-    index: &[usize],
-    out: &mut [u8],
-    n: usize,
-    a: u8,
-) -> Written
-    requires { ⌜ ImageTold (now image) (now index) n a ⌝ ∗ ⌜ length (now image) ≤ 65536 ⌝ }
-    ensures { λ r. ⌜ r ≡ reported (commitOutcome (now (image .entry)) (now (job .entry)) (now (ids .entry)) (length (now (out .entry)))) ⌝ }
-    ensures { λ r. ⌜ now (out .exit) ≡ lent (now (out .entry)) (commitOutcome (now (image .entry)) (now (job .entry)) (now (ids .entry)) (length (now (out .entry)))) ⌝ }
-{
-    if 65536 < job.len() {
-        return Written::Stop(3);
-    }
-    let mut parts = [0usize; 640];
-    match commit_durable::job_read(job, &mut parts) {
-        JobJudged::Stop(k) => Written::Stop(k),
-        JobJudged::At(head) => {
-            // The lesser of the two: each check covers both before the next.
-            let fault = manifest::lesser(a, head.fault);
-            if fault < 8 {
-                return Written::Stop(fault);
-            }
-            commit::apply(image, job, ids, index, &parts, out, head, n)
-        }
-    }
-}
 
 // Reads an image and a job, the record of a compaction, finished or not, and writes to the front of out the image in which
 // what is durable of it shows, through its output tables in the destination and no longer through the sources. New view ids
@@ -53,6 +19,14 @@ pub fn commit<'a>(image: &'a [u8], job: &'a [u8], ids: &[u8], out: &mut [u8]) ->
     let mut index = [0usize; 256];
     match commit_index::image_indexed(image, &mut index) {
         Indexed::Stop(k) => Written::Stop(k),
-        Indexed::At { runs, fault } => commit_job(image, job, ids, &index, out, runs, fault),
+        Indexed::At { runs, fault } => commit::commit_job(
+            image,
+            job,
+            ids,
+            &index,
+            out,
+            runs,
+            fault,
+        ),
     }
 }

@@ -16,3 +16,4 @@ pub mod WriteExits
 pub mod StageExits
 pub mod FaultExits
 pub mod StageLaws
+pub mod JobExits

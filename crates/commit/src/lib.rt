@@ -1,6 +1,7 @@
 // A commit: read once, planned once, written once.
+mod jobs;
 mod rows;
 mod stages;
 mod write;
 
-pub use stages::apply;
+pub use jobs::commit_job;

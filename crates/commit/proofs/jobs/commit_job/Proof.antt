@@ -1,10 +1,10 @@
--- `bilqarush::commits::commit_job` meets its contract.
+-- `commit::jobs::commit_job` meets its contract.
 -- Assumes nothing.
-use Rattle.bilqarush.proofs.CommitExits.{job-exits, job-given}
+use Rattle.commit.proofs.JobExits.{job-exits, job-given}
 use Rattle.base.specs.Bytes.{Bytes}
 use borrow.Author.Needs.{needs}
-use Rattle.bilqarush.proofs.commits.commit_job.Statement.{statement}
-use Rattle.bilqarush.proofs.commits.commit_job.Tie as tie
+use Rattle.commit.proofs.jobs.commit_job.Statement.{statement}
+use Rattle.commit.proofs.jobs.commit_job.Tie as tie
 
 returns : tie.Need-returns
 returns c = search (needs, job-exits)
