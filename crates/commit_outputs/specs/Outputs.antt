@@ -11,7 +11,7 @@ use Rattle.key.specs.Order.{Key}
 use Rattle.comparable_range.specs.Range.{nonEmpty, overlap}
 use Rattle.format.specs.Range.{rangeIn, BoundInside}
 use Rattle.records.specs.Form.{readMany}
-use Rattle.records.specs.Found.{isGot}
+use Rattle.records.specs.Found.{isGot, valuesOf}
 use Rattle.records.specs.Values.{Table, Part}
 use Rattle.records.specs.Layouts.{table}
 use Rattle.manifest.specs.Ranges.{own}
@@ -40,6 +40,10 @@ pub record OutputsThere (s : List ℕ) (h : PartSpan) : Type 0 where
 -- the entries of an output
 abbrev pub entriesIn : List ℕ → PartSpan → Table → List Entry
 entriesIn s h = outputEntries (openIn s h) (intervalIn s (h .start) (h .end))
+
+-- those of all outputs of a part
+abbrev pub outputsIn : List ℕ → PartSpan → List Entry
+outputsIn s h = flatMap (entriesIn s h) (valuesOf (readMany (table .read) (h .outputs) (drop (h .first) s)))
 
 -- ---- the same by cases: `outputEntries` is `entriesAs` of `publishedAs`
 unfoldable pub publishedAs : Option Key → Interval → Table → Published

@@ -2,16 +2,12 @@
 use crate::output::plan_output;
 use commit_entries::Plan;
 use commit_rows::PartSpan;
-ghost use mathlib.Core.List.{flatMap};
 ghost use Prim.Native.Nat.{_≤_};
-ghost use lib.ListN.{length, drop};
+ghost use lib.ListN.{length};
 ghost use Rattle.base.specs.Bytes.{Bytes};
-ghost use Rattle.records.specs.Form.{readMany};
-ghost use Rattle.records.specs.Found.{valuesOf};
-ghost use Rattle.records.specs.Layouts.{table};
 ghost use Rattle.commit_durable.specs.Tables.{PartsHold};
 ghost use Rattle.commit_entries.specs.Planned.{PlanReady};
-ghost use Rattle.commit_outputs.specs.Outputs.{IntervalHeld, OutputsThere, entriesIn, PlannedIn, PlannedOutputs};
+ghost use Rattle.commit_outputs.specs.Outputs.{IntervalHeld, OutputsThere, outputsIn, PlannedIn, PlannedOutputs};
 
 // The outputs of a part that has a durable interval, in a bucket.
 fn plan_part(
@@ -23,7 +19,7 @@ fn plan_part(
     p: Plan,
 ) -> Plan
     requires { ⌜ length (now job) ≤ 262144 ⌝ ∗ ⌜ Bytes (now job) ⌝ ∗ ⌜ IntervalHeld (now job) h ⌝ ∗ ⌜ OutputsThere (now job) h ⌝ ∗ ⌜ PlanReady (now ids) 549755813888 p ⌝ }
-    ensures { λ q. ⌜ PlannedIn (now (job .entry)) (now (ids .entry)) (flatMap (entriesIn (now (job .entry)) h) (valuesOf (readMany (table .read) (h .outputs) (drop (h .first) (now (job .entry)))))) bucket p (now (rows .entry)) q (now (rows .exit)) ⌝ }
+    ensures { λ q. ⌜ PlannedIn (now (job .entry)) (now (ids .entry)) (outputsIn (now (job .entry)) h) bucket p (now (rows .entry)) q (now (rows .exit)) ⌝ }
 {
     let mut seen = 0;
     let mut at = h.first;

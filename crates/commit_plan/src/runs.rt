@@ -3,15 +3,12 @@ use crate::held::view_held;
 use crate::views::plan_view;
 use commit_entries::Plan;
 use commit_index::IndexedRun;
-ghost use mathlib.Core.List.{map, flatMap};
 ghost use Prim.Native.Nat.{_≤_};
 ghost use lib.ListN.{length};
-ghost use Rattle.incremental_progress.specs.Gaps.{gapEntries, runGaps};
-ghost use Rattle.commit_durable.specs.Tables.{jobGaps, GapsHold};
+ghost use Rattle.commit_durable.specs.Tables.{GapsHold};
 ghost use Rattle.commit_gaps.specs.Ordered.{GapsOrdered};
-ghost use Rattle.commit_entries.specs.Planned.{PlanReady, PlannedMore};
-ghost use Rattle.commit_plan.specs.Views.{gapBucket};
-ghost use Rattle.commit_plan.specs.Runs.{viewsAt, RunReady};
+ghost use Rattle.commit_entries.specs.Planned.{PlanReady};
+ghost use Rattle.commit_plan.specs.Runs.{viewsAt, PlannedViews, RunReady};
 
 // View starts ascend in a run, so the first gap that a view can reach never goes back.
 pub fn plan_run<'a>(
@@ -24,8 +21,9 @@ pub fn plan_run<'a>(
     run: IndexedRun,
     p: Plan,
 ) -> Plan
-    requires { ⌜ RunReady (now image) (run .first) (run .views) ⌝ ∗ ⌜ length (now job) ≤ 262144 ⌝ ∗ ⌜ GapsHold (now job) m (now gaps) ⌝ ∗ ⌜ GapsOrdered (now job) ⌝ ∗ ⌜ PlanReady (now ids) 274877906944 p ⌝ }
-    ensures { λ q. ⌜ PlannedMore (now (image .entry)) (now (job .entry)) (now (ids .entry)) (flatMap (gapEntries (jobGaps (now (job .entry)))) (viewsAt (now (image .entry)) (run .first) (run .views))) (map gapBucket (runGaps (jobGaps (now (job .entry))) (viewsAt (now (image .entry)) (run .first) (run .views)))) p (now (rows .entry)) q (now (rows .exit)) ⌝ }
+    requires { ⌜ RunReady (now image) (run .first) (run .views) ⌝ ∗ ⌜ length (now job) ≤ 262144 ⌝ }
+    requires { ⌜ GapsHold (now job) m (now gaps) ⌝ ∗ ⌜ GapsOrdered (now job) ⌝ ∗ ⌜ PlanReady (now ids) 274877906944 p ⌝ }
+    ensures { λ q. ⌜ PlannedViews (now (image .entry)) (now (job .entry)) (now (ids .entry)) (viewsAt (now (image .entry)) (run .first) (run .views)) p (now (rows .entry)) q (now (rows .exit)) ⌝ }
 {
     let mut seen = 0;
     let mut at = run.first;

@@ -11,17 +11,15 @@ use comparable_range::Kind;
 use format::BoundSpan;
 use format::span;
 use format::span::RangeSpan;
-ghost use mathlib.Core.List.{map};
 ghost use Prim.Native.Nat.{_≤_};
 ghost use lib.ListN.{length};
 ghost use Rattle.manifest.specs.Ranges.{effective};
-ghost use Rattle.incremental_progress.specs.Gaps.{gapEntries, gapsMet};
-ghost use Rattle.commit_durable.specs.Tables.{jobGaps, GapsHold};
+ghost use Rattle.commit_durable.specs.Tables.{GapsHold};
 ghost use Rattle.commit_gaps.specs.Ordered.{GapsOrdered};
 ghost use Rattle.commit_gaps.specs.Found.{Reached};
-ghost use Rattle.commit_entries.specs.Planned.{PlanReady, PlannedMore};
+ghost use Rattle.commit_entries.specs.Planned.{PlanReady};
 ghost use Rattle.commit_plan.specs.Held.{viewAt, ViewReady};
-ghost use Rattle.commit_plan.specs.Views.{RangeSmall, PlannedPiece, gapBucket};
+ghost use Rattle.commit_plan.specs.Views.{RangeSmall, PlannedPiece, PlannedView};
 
 // One piece of a view, in a gap with some bounds. Each bound of a cut is the view's (first) or the gap's (second).
 fn plan_piece(
@@ -86,7 +84,7 @@ pub fn plan_view<'a>(
 ) -> Plan
     requires { ⌜ ViewReady (now image) h ⌝ ∗ ⌜ length (now job) ≤ 262144 ⌝ ∗ ⌜ GapsHold (now job) m (now gaps) ⌝ ∗ ⌜ GapsOrdered (now job) ⌝ }
     requires { ⌜ Reached (effective (viewAt (now image) (h .at)) .start) (now job) m (h .gap) ⌝ ∗ ⌜ PlanReady (now ids) 549755813888 p ⌝ }
-    ensures { λ q. ⌜ PlannedMore (now (image .entry)) (now (job .entry)) (now (ids .entry)) (gapEntries (jobGaps (now (job .entry))) (viewAt (now (image .entry)) (h .at))) (map gapBucket (gapsMet 0 (jobGaps (now (job .entry))) (effective (viewAt (now (image .entry)) (h .at))))) p (now (rows .entry)) q (now (rows .exit)) ⌝ }
+    ensures { λ q. ⌜ PlannedView (now (image .entry)) (now (job .entry)) (now (ids .entry)) (viewAt (now (image .entry)) (h .at)) p (now (rows .entry)) q (now (rows .exit)) ⌝ }
 {
     let mut g = h.gap;
     let mut plan = p;
