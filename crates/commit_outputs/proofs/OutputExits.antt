@@ -12,7 +12,6 @@ use Rattle.base.specs.Pick.{pick}
 use Rattle.key.specs.Order.{Key, cmpKey, isEqual}
 use Rattle.key.specs.declared.Order.{Order}
 use Rattle.comparable_range.specs.Range.{Range, boundOf, nonEmpty, overlap}
-use Rattle.comparable_range.specs.declared.Kind.the-variants.{Unbounded}
 use Rattle.format.specs.Range.{boundIn, rangeIn, BoundInside, writeRange}
 use Rattle.format.specs.declared.range.BoundSpan.{BoundSpan}
 use Rattle.records.specs.Values.{Table}
@@ -28,6 +27,7 @@ use Rattle.incremental_progress.specs.Parts.{isKey, identity}
 use Rattle.incremental_progress.specs.Entries.{whole, cut, outputEntries}
 use Rattle.commit_rows.specs.Bytes.{rowBytes, rowRange, rowLength}
 use Rattle.commit_rows.specs.declared.parts.PartSpan.{PartSpan}
+use Rattle.commit_rows.specs.declared.rows.Form.{Form}
 use Rattle.commit_rows.specs.declared.rows.Form.the-variants.{Output, CutOutput}
 use Rattle.commit_rows.specs.declared.rows.Row.{Row}
 use Rattle.commit_durable.specs.Tables.{intervalIn, openIn}
@@ -36,7 +36,7 @@ use Rattle.commit_entries.specs.declared.Plan.{Plan}
 use Rattle.commit_entries.proofs.Planning.{planned-none, planned-whole, planned-cut}
 use Rattle.commit_entries.proofs.Standing.{table-stands, table-id, table-id-long, table-id-within}
 use Rattle.commit_entries.proofs.RowBytes.{cut-view-bytes, cut-entry-bytes, identity-bytes, new-id-bytes, range-length, cut-length, whole-length}
-use Rattle.commit_outputs.specs.Outputs.{IntervalHeld, entriesIn, publishedAs, entriesAs, PlannedIn}
+use Rattle.commit_outputs.specs.Outputs.{IntervalHeld, entriesIn, publishedAs, outputRow, entriesAs, PlannedIn}
 use Rattle.commit_outputs.specs.declared.output.Published.{Published}
 use Rattle.commit_outputs.specs.declared.output.Published.the-variants.{Left, Whole, Cut}
 
@@ -124,26 +124,14 @@ entries-are (some b) iv t = go (isKey (t .last) b) (nonEmpty (overlap (own t) (t
     go true false = refl
     go false y = refl
 
-abbrev openSpan : BoundSpan
-openSpan = record { kind = Unbounded; at = 0; len = 0 }
-
-abbrev outputRow : ℕ → ℕ → ℕ → Row
-outputRow bucket at past = record { form = Output; bucket = bucket; at = at; past = past; start = openSpan; end = openSpan; ten = 0 }
-
-abbrev cutRow : ℕ → ℕ → ℕ → PartSpan → Row
-cutRow bucket at past h = record { form = CutOutput; bucket = bucket; at = at; past = past; start = h .start; end = h .end; ten = 0 }
-
 module _ (s : List ℕ) (at : ℕ) (t : TableSpan) (small : length s ≤ 262144) (b : Bytes s) (l : at ≤ length s) (f : TableThere s (table .read (drop at s)) t) where
-  pub output-small : (bucket : ℕ) → RowSmall (outputRow bucket at (t .past))
-  output-small bucket = record { order = omega (arith, table-id-within s at b l f); past = omega (arith, f .inside .past); start = omega arith; end = omega arith }
-
   pub output-id : at + 16 ≤ length s
   output-id = omega (arith, table-id-within s at b l f, f .inside .past)
 
   module _ (h : PartSpan) (i : IntervalHeld s h) (bucket : ℕ) (p : Plan) (ids d : List ℕ) where
-    pub cut-small : RowSmall (cutRow bucket at (t .past) h)
-    cut-small =
-        record {
+    pub output-small : (form : Form) {r : Row} → r ≡ outputRow form h bucket at (t .past) → RowSmall r
+    output-small form e =
+        rw e record {
           order = omega (arith, table-id-within s at b l f);
           past = omega (arith, f .inside .past);
           start = omega (arith, i .start);
@@ -157,23 +145,23 @@ module _ (s : List ℕ) (at : ℕ) (t : TableSpan) (small : length s ≤ 262144)
       pub output-left : x ≡ Left → PlannedIn s ids (entriesIn s h (tableIn s t)) bucket p d p d
       output-left w image = rw (entries-by, w) (planned-none image s ids p d)
 
-      whole-row : (image : List ℕ) → WholeRow image s ids (identity (tableIn s t)) bucket (outputRow bucket at (t .past))
+      whole-row : (image : List ℕ) → WholeRow image s ids (identity (tableIn s t)) bucket (outputRow Output h bucket at (t .past))
       unfolding rowBytes rowLength
       whole-row image =
           let y = table-stands s at b l f in
           let n : at + 16 - at ≡ 16 = omega arith in
           record {
-            inside = record { id = table-id-within s at b l f; past = f .inside .past; ten = tt; start = omega arith; end = omega arith };
+            inside = record { id = table-id-within s at b l f; past = f .inside .past; ten = tt; start = i .start; end = i .end };
             bytes = rw (y .are, n, table-id s at b l f) (sym (identity-bytes (tableIn s t)));
             long = rw (identity-bytes, whole-length) (omega (arith, y .ends, table-id-long s at b l f));
             bucket = refl;
           }
 
-      pub output-whole : {q : Plan} {u : List ℕ} → x ≡ Whole → Added (outputRow bucket at (t .past)) p d q u → PlannedIn s ids (entriesIn s h (tableIn s t)) bucket p d q u
-      output-whole {q} {u} w a image =
-          rw (entries-by, w) (planned-whole image s ids (identity (tableIn s t)) bucket (outputRow bucket at (t .past)) (whole-row image) p d q u a)
+      pub output-whole : {r : Row} {q : Plan} {u : List ℕ} → x ≡ Whole → r ≡ outputRow Output h bucket at (t .past) → Added r p d q u → PlannedIn s ids (entriesIn s h (tableIn s t)) bucket p d q u
+      output-whole {r} {q} {u} w g a image =
+          rw (entries-by, w) (planned-whole image s ids (identity (tableIn s t)) bucket (outputRow Output h bucket at (t .past)) (whole-row image) p d q u (rw g at a))
 
-      cut-row : (image : List ℕ) → CutRow image s ids (identity (tableIn s t)) (toRange (intervalIn s (h .start) (h .end))) bucket (cutRow bucket at (t .past) h)
+      cut-row : (image : List ℕ) → CutRow image s ids (identity (tableIn s t)) (toRange (intervalIn s (h .start) (h .end))) bucket (outputRow CutOutput h bucket at (t .past))
       unfolding rowBytes rowLength rowRange
       cut-row image =
           let y = table-stands s at b l f in
@@ -189,14 +177,15 @@ module _ (s : List ℕ) (at : ℕ) (t : TableSpan) (small : length s ≤ 262144)
           }
 
       pub output-cut :
-          {q : Plan} {u : List ℕ} {old : ViewId}
+          {r : Row} {q : Plan} {u : List ℕ} {old : ViewId}
           → x ≡ Cut
+          → r ≡ outputRow CutOutput h bucket at (t .past)
           → old .0 ≡ take 16 (drop at s)
-          → AddedCut old ids (cutRow bucket at (t .past) h) p d q u
+          → AddedCut old ids r p d q u
           → PlannedIn s ids (entriesIn s h (tableIn s t)) bucket p d q u
-      output-cut {q} {u} {old} w j a image =
+      output-cut {r} {q} {u} {old} w g j a image =
           let z : old ≡ identity (tableIn s t) .id = ap (λ n. record { 0 = n }) (j ∙ table-id s at b l f) in
           rw (entries-by, w)
-          (planned-cut image s ids (identity (tableIn s t)) (toRange (intervalIn s (h .start) (h .end))) bucket (cutRow bucket at (t .past) h) (cut-row image) p d q u (rw z at a))
+          (planned-cut image s ids (identity (tableIn s t)) (toRange (intervalIn s (h .start) (h .end))) bucket (outputRow CutOutput h bucket at (t .past)) (cut-row image) p d q u (rw (z, g) at a))
 
-pub ruleset output-exits = (output-small, output-id, cut-small, output-left, output-whole, output-cut)
+pub ruleset output-exits = (output-small, output-id, output-left, output-whole, output-cut)

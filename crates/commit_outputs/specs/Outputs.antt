@@ -19,6 +19,8 @@ use Rattle.incremental_progress.specs.Intervals.{Interval, toRange}
 use Rattle.incremental_progress.specs.Parts.{isKey, identity, durable}
 use Rattle.incremental_progress.specs.Entries.{Entry, whole, cut, outputEntries, partEntries}
 use Rattle.commit_rows.specs.declared.parts.PartSpan.{PartSpan}
+use Rattle.commit_rows.specs.declared.rows.Form.{Form}
+use Rattle.commit_rows.specs.declared.rows.Row.{Row}
 use Rattle.commit_durable.specs.Tables.{jobOf, intervalIn, openIn}
 use Rattle.commit_entries.specs.Planned.{PlanReady, PlannedMore}
 use Rattle.commit_entries.specs.declared.Plan.{Plan}
@@ -54,6 +56,10 @@ abbrev pub entriesAs : Interval → Table → Published → List Entry
 entriesAs iv t Left = []
 entriesAs iv t Whole = whole (identity t) ∷ []
 entriesAs iv t Cut = cut (identity t) (toRange iv) ∷ []
+
+-- its row
+abbrev pub outputRow : Form → PartSpan → ℕ → ℕ → ℕ → Row
+outputRow form h bucket at past = record { form = form; bucket = bucket; at = at; past = past; start = h .start; end = h .end; ten = 0 }
 
 -- ---- planned
 -- each in one bucket

@@ -23,7 +23,7 @@ ghost use Rattle.incremental_progress.specs.Intervals.{toRange};
 ghost use Rattle.incremental_progress.specs.Parts.{isKey};
 ghost use Rattle.commit_durable.specs.Tables.{intervalIn, openIn};
 ghost use Rattle.commit_entries.specs.Planned.{PlanReady};
-ghost use Rattle.commit_outputs.specs.Outputs.{IntervalHeld, publishedAs, entriesIn, PlannedIn};
+ghost use Rattle.commit_outputs.specs.Outputs.{IntervalHeld, publishedAs, outputRow, entriesIn, PlannedIn};
 
 // What is published of an output: nothing, all of it, or what lies in the interval.
 pub enum Published {
@@ -77,6 +77,23 @@ fn published_as(job: &[u8], t: TableSpan, h: PartSpan) -> Published
     Published::Whole
 }
 
+// The row of an output that stands from one place to another. The bounds of one that is published whole are not read.
+fn output_row(form: Form, h: PartSpan, bucket: usize, at: usize, past: usize) -> Row
+    ensures { λ r. ⌜ r ≡ outputRow form h bucket at past ⌝ }
+{
+    let start = h.start;
+    let end = h.end;
+    Row {
+        form,
+        bucket,
+        at,
+        past,
+        start,
+        end,
+        ten: 0,
+    }
+}
+
 // The output at a place of the job, in a bucket.
 pub fn plan_output(
     job: &[u8],
@@ -92,38 +109,14 @@ pub fn plan_output(
     requires { ⌜ IntervalHeld (now job) h ⌝ ∗ ⌜ PlanReady (now ids) 1099511627776 p ⌝ }
     ensures { λ q. ⌜ PlannedIn (now (job .entry)) (now (ids .entry)) (entriesIn (now (job .entry)) h (tableIn (now (job .entry)) t)) bucket p (now (rows .entry)) q (now (rows .exit)) ⌝ }
 {
-    let none = BoundSpan {
-        kind: Kind::Unbounded,
-        at: 0,
-        len: 0,
-    };
-    let start = h.start;
-    let end = h.end;
-    let past = t.past;
     match published_as(job, t, h) {
         Published::Left => p,
         Published::Whole => {
-            let row = Row {
-                form: Form::Output,
-                bucket,
-                at,
-                past,
-                start: none,
-                end: none,
-                ten: 0,
-            };
+            let row = output_row(Form::Output, h, bucket, at, t.past);
             add_row(rows, p, row)
         }
         Published::Cut => {
-            let row = Row {
-                form: Form::CutOutput,
-                bucket,
-                at,
-                past,
-                start,
-                end,
-                ten: 0,
-            };
+            let row = output_row(Form::CutOutput, h, bucket, at, t.past);
             add_cut(commit_ids::published_id(job, at), ids, rows, p, row)
         }
     }

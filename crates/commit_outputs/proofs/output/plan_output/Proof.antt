@@ -14,11 +14,17 @@ enum-told c = search (needs, output-exits)
 enum-told-2 : tie.Need-enum-told-2
 enum-told-2 c = search (needs, output-exits)
 
+output-row-requires : tie.Need-output-row-requires
+output-row-requires c κs = search (needs, output-exits)
+
 add-row-requires : tie.Need-add-row-requires
 add-row-requires c κs = search (needs, output-exits)
 
 enum-told-3 : tie.Need-enum-told-3
 enum-told-3 c = search (needs, output-exits)
+
+output-row-requires-2 : tie.Need-output-row-requires-2
+output-row-requires-2 c κs = search (needs, output-exits)
 
 published-id-requires : tie.Need-published-id-requires
 published-id-requires c κs = search (needs, output-exits)
@@ -33,13 +39,13 @@ same-length : tie.Need-same-length
 same-length c = search (needs, output-exits)
 
 returns-2 : tie.Need-returns-2
-returns-2 c = search (needs, output-exits)
+returns-2 c = search (needs, output-exits, c .before .before .before .before .output-row .ensures, c .before .before .before .before .before .before .before .before .before .before .before .pre)
 
 same-length-2 : tie.Need-same-length-2
 same-length-2 c = search (needs, output-exits)
 
 returns-3 : tie.Need-returns-3
-returns-3 c = search (needs, output-exits)
+returns-3 c = search (needs, output-exits, c .before .before .before .before .before .output-row2 .ensures, c .before .before .before .before .published-id .ensures, c .before .before .before .before .before .before .before .before .before .before .before .before .pre)
 
 pub plan-output-spec : {M : Type 1} → statement M
 plan-output-spec =
@@ -48,8 +54,10 @@ plan-output-spec =
     published-as-requires
     enum-told
     enum-told-2
+    output-row-requires
     add-row-requires
     enum-told-3
+    output-row-requires-2
     published-id-requires
     add-cut-requires
     returns
