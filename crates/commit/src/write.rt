@@ -28,7 +28,7 @@ fn write_image<'a>(
         return Written::Stop(16);
     }
     let counts = Counts {
-        runs: records::runs_there(image),
+        runs: records::runs_there(image, 0),
         outputs: a.outputs,
     };
     commit_write::put_image(image, job, ids, runs, rows, order, out, counts);

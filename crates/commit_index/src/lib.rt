@@ -95,15 +95,15 @@ pub fn image_indexed(s: &[u8], index: &mut [usize]) -> Indexed
     requires { ⌜ 256 ≤ length (now index) ⌝ }
     ensures { λ r. ⌜ ImageIndexed (now (s .entry)) (now (index .entry)) (now (index .exit)) r ⌝ }
 {
-    match records::count_at(s, 0, 1, 64) {
+    match records::runs_at(s, 0) {
         CountRead::Stop(k) => Indexed::Stop(k),
         CountRead::At(n, first) => match runs_indexed(s, first, n, index) {
             Judged::Stop(k) => Indexed::Stop(k),
             Judged::At { next, fault } => {
-                if next < s.len() {
-                    return Indexed::Stop(1);
+                if records::at_end(s, next) {
+                    return Indexed::At { runs: n, fault };
                 }
-                Indexed::At { runs: n, fault }
+                Indexed::Stop(1)
             }
         },
     }

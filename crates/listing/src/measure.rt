@@ -97,5 +97,5 @@ pub fn listing_len(s: &[u8]) -> usize
     requires { ⌜ length (now s) ≤ 65536 ⌝ ∗ ⌜ T (isGot (image .read (now s))) ⌝ }
     ensures { λ r. ⌜ r ≡ length (listing (valuesOf (image .read (now (s .entry))))) ⌝ }
 {
-    25 + runs_len(s, 1, records::runs_there(s))
+    25 + runs_len(s, 1, records::runs_there(s, 0))
 }

@@ -206,7 +206,7 @@ pub fn put_listing(s: &[u8], out: &mut [u8])
     requires { ⌜ T (isGot (image .read (now s))) ⌝ ∗ ⌜ length (listing (valuesOf (image .read (now s)))) ≤ length (now out) ⌝ }
     ensures { λ _. ⌜ now (out .exit) ≡ over (listing (valuesOf (image .read (now (s .entry))))) (now (out .entry)) ⌝ }
 {
-    let n = records::runs_there(s);
+    let n = records::runs_there(s, 0);
     put_header(out);
     put_runs(s, 1, n, out, 25);
 }

@@ -5,15 +5,15 @@ use mathlib.Core.Path.{_≡_, refl, sym, ap, _∙_}
 use mathlib.Core.List.{List}
 use lib.ListN.{length, drop, drop-of-length-le}
 use lib.Seq.{drop-cons}
-use borrow.Author.Tests.{le-leb, lt-leb, lt-ltb, le-ltb, ltb-true, ltb-false}
-use lib.Dec.{ltb}
+use borrow.Author.Tests.{le-leb, lt-leb, lt-ltb, le-ltb, ltb-true, ltb-false, leb-true, leb-false}
+use lib.Dec.{ltb, leb}
 use mathlib.Core.Bool.{Bool, true, false}
 use Rattle.base.specs.Pick.{pick}
 use Rattle.base.specs.Outcome.{answer}
 use Rattle.format.specs.Got.{Got, got, stop}
 use Rattle.format.specs.Whole.{whole, ended}
 use Rattle.manifest.specs.Checks.{Checks}
-use Rattle.manifest.specs.Spans.{faults, JudgedFound, outcomeFault, JudgedWhole, endedBy}
+use Rattle.manifest.specs.Spans.{faults, JudgedInside, JudgedFound, outcomeFault, JudgedWhole, endedBy}
 use Rattle.manifest.specs.declared.images.Judged.{Judged}
 use Rattle.manifest.specs.declared.images.Judged.the-variants.{At, Stop}
 use Rattle.manifest.proofs.ImageExits.{Judge, judge, judge-stop}
@@ -23,13 +23,16 @@ module _ (n : ℕ) {r : Judged} where
   pub ended-stop : {k : ℕ} → r ≡ Stop k → Stop k ≡ endedBy n r
   ended-stop q = rw q
 
-  pub ended-left : {next fault : ℕ} → r ≡ At next fault → next < n → Stop 1 ≡ endedBy n r
-  ended-left {next} q h = rw (q, lt-ltb next n h)
+  pub ended-left : {next fault : ℕ} {b : Bool} → r ≡ At next fault → b ≡ leb n next → b ≡ false → Stop 1 ≡ endedBy n r
+  ended-left {next} q e f = rw (q, lt-ltb next n (leb-false n next (sym e ∙ f)))
 
-  pub ended-all : {next fault : ℕ} → r ≡ At next fault → n ≤ next → At next fault ≡ endedBy n r
-  ended-all {next} q h = rw (q, le-ltb next n h)
+  pub ended-all : {next fault : ℕ} {b : Bool} → r ≡ At next fault → b ≡ leb n next → b ≡ true → At next fault ≡ endedBy n r
+  ended-all {next} q e f = rw (q, le-ltb next n (leb-true n next (sym e ∙ f)))
 
-pub ruleset ended-exits = (ended-stop, ended-left, ended-all)
+pub next-inside : (s : List ℕ) (r : Judged) {next fault : ℕ} → r ≡ At next fault → JudgedInside s r → next ≤ length s
+next-inside s r q h = rw q at h
+
+pub ruleset ended-exits = (ended-stop, ended-left, ended-all, next-inside)
 
 -- ---- the whole of a buffer
 module _ {A : Type 0} (checks : A → Checks) (read : List ℕ → Got A) (s : List ℕ) where

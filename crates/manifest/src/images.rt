@@ -19,7 +19,7 @@ ghost use Rattle.records.specs.Layouts.{view, run, image};
 ghost use Rattle.format.specs.Whole.{whole};
 ghost use Rattle.manifest.specs.Checks.{imageChecks, has};
 ghost use Rattle.manifest.specs.Faults.{faultOf, ordered, viewsChecks};
-ghost use Rattle.manifest.specs.Spans.{JudgedFound, faults, JudgedWhole, endedBy};
+ghost use Rattle.manifest.specs.Spans.{JudgedInside, JudgedFound, faults, JudgedWhole, endedBy};
 
 // The place past what was read, with the number of the first of the checks 4 to 7 that fails, or 8; or a stop.
 pub enum Judged {
@@ -114,15 +114,16 @@ fn runs_judged(s: &[u8], from: usize, n: usize) -> Judged
 
 // What a reading from the front of a buffer says of the whole buffer: bytes that remain are stop 1.
 pub fn ended(s: &[u8], r: Judged) -> Judged
+    requires { ⌜ JudgedInside (now s) r ⌝ }
     ensures { λ w. ⌜ w ≡ endedBy (length (now (s .entry))) r ⌝ }
 {
     match r {
         Judged::Stop(k) => Judged::Stop(k),
         Judged::At { next, fault } => {
-            if next < s.len() {
-                return Judged::Stop(1);
+            if records::at_end(s, next) {
+                return Judged::At { next, fault };
             }
-            Judged::At { next, fault }
+            Judged::Stop(1)
         }
     }
 }
@@ -131,7 +132,7 @@ pub fn ended(s: &[u8], r: Judged) -> Judged
 fn image_front(s: &[u8]) -> Judged
     ensures { λ r. ⌜ JudgedFound (now (s .entry)) (faults imageChecks (image .read (now (s .entry)))) r ⌝ }
 {
-    match records::count_at(s, 0, 1, 64) {
+    match records::runs_at(s, 0) {
         CountRead::Stop(k) => Judged::Stop(k),
         CountRead::At(n, first) => runs_judged(s, first, n),
     }

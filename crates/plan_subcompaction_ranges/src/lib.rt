@@ -131,7 +131,7 @@ fn runs_sampled(given: &[u8], indexes: &[u8], keys: &mut [usize], bytes: &mut [u
     requires { ⌜ T (isGot (image .read (now given))) ⌝ ∗ ⌜ length (now bytes) ≡ length (now keys) ⌝ }
     ensures { λ r. ⌜ SampledAll (now (indexes .entry)) (now (keys .entry)) (now (keys .exit)) (now (bytes .exit)) (views (valuesOf (image .read (now (given .entry))))) r ⌝ }
 {
-    let n = records::runs_there(given);
+    let n = records::runs_there(given, 0);
     let none = Kept { rows: 0, total: 0 };
     let mut w = SoFar {
         at: 0,

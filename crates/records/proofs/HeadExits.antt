@@ -1,4 +1,4 @@
--- A run is its head and its views, a counted list its count and its values; and the exits of `run_at` and `count_at`.
+-- A run is its head and its views, a counted list its count and its values; and the exits of `run_span` and `count_at`.
 -- Assumes nothing.
 use Prim.Native.Nat.{ℕ, _+_, _*_, _-_, _/_, _%_, _^_, _<_, _≤_}
 use native.Mathlib.Omega.{arith}
@@ -58,7 +58,7 @@ unfolding run
 run-is l =
     simp (counted-is viewCount view) (head-first (readNumber 4 l) (viewCount .read) (readMany (view .read)))
 
--- ---- run_at
+-- ---- run_span
 module _ (s : List ℕ) (at : ℕ) where
   pub no-head : at ≤ length s → length s - at < 6 → RunFound s (runHead .read (drop at s)) (RunStop 1)
   no-head h l =

@@ -14,3 +14,6 @@ pub mod PartExits
 pub mod BlockExits
 pub mod Examples
 pub mod Within
+pub mod ReaderContracts
+pub mod MethodWalk
+pub mod PlainWalk

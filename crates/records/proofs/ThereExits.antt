@@ -3,11 +3,12 @@
 use Prim.Native.Nat.{ℕ, _+_, _*_, _-_, _/_, _%_, _^_, _<_, _≤_}
 use native.Mathlib.Omega.{arith}
 use native.Mathlib.Nat.{add-zero}
-use mathlib.Core.Path.{_≡_, refl, _∙_}
+use mathlib.Core.Path.{_≡_, refl, sym, ap, _∙_}
 use mathlib.Core.Bool.{Bool, true, false}
 use mathlib.Core.Option.{Option}
 use mathlib.Core.List.{List}
 use lib.ListN.{length, getD, take, drop, length-drop}
+use lib.Seq.{drop-drop}
 use lib.Dec.{T, leb, eqb}
 use mir.Val.{Fits}
 use mir.Syntax.{w64}
@@ -45,7 +46,7 @@ long-got {A} g n l s t = go (leb n (length l)) refl
 left : (s : List ℕ) (at n : ℕ) → 0 < n → n ≤ length (drop at s) → at + n ≤ length s
 left s at n p h = omega (arith, rw length-drop at h)
 
--- ---- runs_there
+-- ---- known_count
 counted-runs : (b : Bool) (n : ℕ) (l : List ℕ) (k : ℕ → List ℕ → Got Image) → T (isGot (andThen (taken (check 3 b (answer n)) l) k)) → andThen (taken (check 3 b (answer n)) l) k ≡ k n l
 counted-runs true n l k t = refl
 counted-runs false n l k t = absurd t
@@ -54,26 +55,29 @@ counted-most : (b : Bool) (n : ℕ) (l : List ℕ) (k : ℕ → List ℕ → Got
 counted-most true n l k e t = leb-true n 64 e
 counted-most false n l k e t = absurd t
 
-module _ (s : List ℕ) (t : T (isGot (image .read s))) where
-  runs-got : T (isGot (andThen (upTo 1 64 .read s) (readMany (run .read))))
-  runs-got = rw (image-is s) at t
+module _ (s : List ℕ) (at : ℕ) (t : T (isGot (image .read (drop at s)))) where
+  runs-got : T (isGot (andThen (upTo 1 64 .read (drop at s)) (readMany (run .read))))
+  runs-got = rw (image-is (drop at s)) at t
 
-  pub image-room : 0 + 1 ≤ length s
-  image-room = number-got 1 s (first-got (readNumber 1 s) _ (first-got (upTo 1 64 .read s) _ runs-got))
+  byte-there : 1 ≤ length (drop at s)
+  byte-there = number-got 1 (drop at s) (first-got (readNumber 1 (drop at s)) _ (first-got (upTo 1 64 .read (drop at s)) _ runs-got))
 
-  pub runs-are : {n : ℕ} → readNumber 1 (drop 0 s) ≡ got n (drop (0 + 1) s) → RunsThere s (image .read s) n
+  pub image-room : at + 1 ≤ length s
+  image-room = left s at 1 (omega arith) byte-there
+
+  pub runs-are : {n : ℕ} → readNumber 1 (drop at s) ≡ got n (drop (at + 1) s) → RunsThere (drop at s) (image .read (drop at s)) n
   unfolding countOf
   runs-are {n} e =
-      let f : readNumber 1 s ≡ got n (drop 1 s) = e in
+      let f : readNumber 1 (drop at s) ≡ got n (drop 1 (drop at s)) = e ∙ ap (got n) (sym (drop-drop 1 at s)) in
       record {
-        meaning = image-is s ∙ rw f (counted-runs (leb n 64) n (drop 1 s) (readMany (run .read)) (rw f at runs-got));
-        inside = image-room;
-        most = counted-most (leb n 64) n (drop 1 s) (readMany (run .read)) refl (rw f at runs-got);
+        meaning = image-is (drop at s) ∙ rw f (counted-runs (leb n 64) n (drop 1 (drop at s)) (readMany (run .read)) (rw f at runs-got));
+        inside = byte-there;
+        most = counted-most (leb n 64) n (drop 1 (drop at s)) (readMany (run .read)) refl (rw f at runs-got);
       }
 
-pub ruleset runs-there-exits = (image-room, runs-are)
+pub ruleset known-count-exits = (image-room, runs-are)
 
--- ---- run_there
+-- ---- known_run
 counts : (a b : Bool) (n : ℕ) (l : List ℕ) → T (isGot (taken (check 3 a (check 2 b (answer n))) l)) → taken (check 3 a (check 2 b (answer n))) l ≡ got n l
 counts true true n l t = refl
 counts true false n l t = absurd t
@@ -106,7 +110,7 @@ module _ (s : List ℕ) (at : ℕ) (t : T (isGot (runHead .read (drop at s)))) w
       let z : at + 4 + 2 ≡ at + 6 = omega arith in
       record { meaning = o ∙ rw (f, c, z); inside = head-room }
 
-pub ruleset run-there-exits = (id-room, count-room, count-fits, views-fit, run-is)
+pub ruleset known-run-exits = (id-room, count-room, count-fits, views-fit, run-is)
 
 -- ---- last_there
 module _ (s : List ℕ) (at : ℕ) {f : Bool} where
@@ -206,7 +210,7 @@ module _ (s : List ℕ) (at : ℕ) (t : T (isGot (table .read (drop at s)))) whe
 
 pub ruleset table-there-exits = (offset-room, len-room, filter-room, flag-room, field-fits, first-there, last-there, table-is)
 
--- ---- view_there
+-- ---- known_view
 id-short : (l : List ℕ) → length l < 16 → view .read l ≡ stop 1
 unfolding view
 id-short l h = rw (bytes-short 16 l h)
@@ -288,7 +292,7 @@ module _ (s : List ℕ) (at : ℕ) (t : T (isGot (view .read (drop at s)))) wher
             inside = record { id = view-room; table = x .inside; start = rw add-zero after-flag; end = rw add-zero after-flag; past = after-flag };
           }
 
-pub ruleset view-there-exits = (table-fits, table-got, flag-there, after-flag-fits, after-flag, range-got, view-shown, view-hidden, range-there-exits)
+pub ruleset known-view-exits = (table-fits, table-got, flag-there, after-flag-fits, after-flag, range-got, view-shown, view-hidden, range-there-exits)
 
 -- ---- block_there
 module _ (s : List ℕ) (at : ℕ) (t : T (isGot (block .read (drop at s)))) where

@@ -1,4 +1,4 @@
--- The exits of `visible_at` and `view_at`: a view is read field by field, and the first stop is the answer.
+-- The exits of `visible_at` and `view_span`: a view is read field by field, and the first stop is the answer.
 -- Assumes nothing.
 use Prim.Native.Nat.{ℕ, _+_, _-_, _^_, _<_, _≤_}
 use native.Mathlib.Omega.{arith}
@@ -98,7 +98,7 @@ module _ (s : List ℕ) (p : ℕ) (l : p < length s) where
 
 pub ruleset view-of-exits = (no-flag, bad-visible, bad-range, view-read, range-fits, range-place)
 
--- ---- view_at
+-- ---- view_span
 module _ (s : List ℕ) (at : ℕ) where
   pub no-id : at ≤ length s → length s - at < 16 → ViewFound s (view .read (drop at s)) (Stop 1)
   unfolding view

@@ -12,7 +12,7 @@ use Rattle.format.specs.declared.there.KeySpan.{KeySpan}
 use Rattle.records.specs.Form.{readMany}
 use Rattle.records.specs.Found.{valuesOf}
 use Rattle.records.specs.Values.{Table, View, Image, Block}
-use Rattle.records.specs.Layouts.{run}
+use Rattle.records.specs.Layouts.{table, view, run}
 use Rattle.records.specs.Spans.{ifSo, keyIn, tableIn, TableInside, viewIn, ViewInside}
 use Rattle.records.specs.declared.tables.TableSpan.{TableSpan}
 use Rattle.records.specs.declared.views.ViewSpan.{ViewSpan}
@@ -40,6 +40,11 @@ pub record TableThere (s : List ℕ) (g : Got Table) (t : TableSpan) : Type 0 wh
 pub record ViewThere (s : List ℕ) (g : Got View) (v : ViewSpan) : Type 0 where
   pub meaning : g ≡ got (viewIn s v) (drop (v .past) s)
   pub inside : ViewInside s v
+
+-- the view at a place, and its table
+pub record ViewKnown (s : List ℕ) (at : ℕ) (v : ViewSpan) : Type 0 where
+  pub whole : ViewThere s (view .read (drop at s)) v
+  pub table-there : TableThere s (table .read (drop (at + 16) s)) (v .table)
 
 -- a block, whose first key is read where the answer says
 pub record BlockThere (s : List ℕ) (g : Got Block) (b : BlockSpan) : Type 0 where

@@ -1,9 +1,10 @@
 // The layouts of document 01, "Images", beyond keys and ranges: tables, views, runs, jobs, blocks, anchors. What is read is
-// read in place: an answer says where it stands.
+// read in place: an answer says where it stands. An image is read by one reader alone.
 mod blocks;
 mod fields;
 mod ids;
 mod parts;
+mod reader;
 mod runs;
 mod tables;
 mod there;
@@ -21,10 +22,17 @@ pub use parts::JobRead;
 pub use parts::PartRead;
 pub use parts::job_head;
 pub use parts::part_at;
+pub use reader::Reader;
+pub use reader::at_end;
+pub use reader::run_at;
+pub use reader::run_there;
+pub use reader::runs_at;
+pub use reader::runs_there;
+pub use reader::view_at;
+pub use reader::view_there;
 pub use runs::CountRead;
 pub use runs::RunRead;
 pub use runs::count_at;
-pub use runs::run_at;
 pub use tables::TableRead;
 pub use tables::TableSpan;
 pub use tables::table_at;
@@ -32,11 +40,7 @@ pub use there::BlockSpan;
 pub use there::RunSpan;
 pub use there::block_there;
 pub use there::blocks_past;
-pub use there::run_there;
-pub use there::runs_there;
 pub use there::table_there;
-pub use there::view_there;
 pub use there::views_end;
 pub use views::ViewRead;
 pub use views::ViewSpan;
-pub use views::view_at;

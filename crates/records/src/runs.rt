@@ -1,6 +1,8 @@
 // The head of a run, and the counts at the front of an image.
 use crate::fields::number_here;
+ghost use mathlib.Core.Path.{_≡_};
 ghost use Prim.Native.Nat.{_≤_, _+_};
+ghost use lib.Dec.{leb};
 ghost use lib.ListN.{length, drop};
 ghost use Rattle.records.specs.Layouts.{upTo};
 ghost use Rattle.records.specs.Spans.{runHead, RunFound, CountFound};
@@ -12,7 +14,7 @@ pub enum RunRead {
 }
 
 // The head of the run at a place.
-pub fn run_at(s: &[u8], at: usize) -> RunRead
+pub fn run_span(s: &[u8], at: usize) -> RunRead
     requires { ⌜ at ≤ length (now s) ⌝ }
     ensures { λ r. ⌜ RunFound (now (s .entry)) (runHead .read (drop at (now (s .entry)))) r ⌝ }
 {
@@ -53,4 +55,20 @@ pub fn count_at(s: &[u8], at: usize, n: usize, most: usize) -> CountRead
         return CountRead::Stop(3);
     }
     CountRead::At(count as usize, at + n)
+}
+
+// How many runs the image at a place has.
+pub fn count_span(s: &[u8], at: usize) -> CountRead
+    requires { ⌜ at ≤ length (now s) ⌝ }
+    ensures { λ r. ⌜ CountFound (now (s .entry)) (upTo 1 64 .read (drop at (now (s .entry)))) r ⌝ }
+{
+    count_at(s, at, 1, 64)
+}
+
+// Whether no byte stands at a place or after it.
+pub fn none_left(s: &[u8], at: usize) -> bool
+    requires { ⌜ at ≤ length (now s) ⌝ }
+    ensures { λ r. ⌜ r ≡ leb (length (now (s .entry))) at ⌝ }
+{
+    s.len() <= at
 }

@@ -1,4 +1,6 @@
-// Runs, views, tables and blocks that are known to be there: what was read once is read again without a test.
+// Runs, views, tables and blocks that are known to be there: what was read once is read again without a test. Other crates
+// read those of an image by the reader.
+use crate::reader::view_there;
 use crate::tables::TableSpan;
 use crate::views::ViewSpan;
 use comparable_range::Kind;
@@ -12,7 +14,7 @@ ghost use Rattle.format.specs.Got.{isGot};
 ghost use Rattle.records.specs.Form.{readMany};
 ghost use Rattle.records.specs.Layouts.{table, view, image, block};
 ghost use Rattle.records.specs.Spans.{lastIf, runHead};
-ghost use Rattle.records.specs.There.{RunsThere, RunThere, LastThere, TableThere, ViewThere, BlockThere, Past};
+ghost use Rattle.records.specs.There.{RunsThere, RunThere, LastThere, TableThere, ViewKnown, BlockThere, Past};
 
 // A run's id, how many views it has, and the place of the first.
 pub struct RunSpan {
@@ -21,16 +23,16 @@ pub struct RunSpan {
     pub first: usize,
 }
 
-// How many runs the image at the front of a buffer has. The first stands at 1.
-pub fn runs_there(s: &[u8]) -> usize
-    requires { ⌜ T (isGot (image .read (now s))) ⌝ }
-    ensures { λ r. ⌜ RunsThere (now (s .entry)) (image .read (now (s .entry))) r ⌝ }
+// How many runs the image at a place has. The first stands a byte after it.
+pub fn known_count(s: &[u8], at: usize) -> usize
+    requires { ⌜ T (isGot (image .read (drop at (now s)))) ⌝ }
+    ensures { λ r. ⌜ RunsThere (drop at (now (s .entry))) (image .read (drop at (now (s .entry)))) r ⌝ }
 {
-    format::number_there(s, 0, 1) as usize
+    format::number_there(s, at, 1) as usize
 }
 
 // The head of the run at a place.
-pub fn run_there(s: &[u8], at: usize) -> RunSpan
+pub fn known_run(s: &[u8], at: usize) -> RunSpan
     requires { ⌜ T (isGot (runHead .read (drop at (now s)))) ⌝ }
     ensures { λ r. ⌜ RunThere (now (s .entry)) (runHead .read (drop at (now (s .entry)))) r ⌝ }
 {
@@ -87,10 +89,9 @@ pub fn table_there(s: &[u8], at: usize) -> TableSpan
 }
 
 // The view at a place, and its table.
-pub fn view_there(s: &[u8], at: usize) -> ViewSpan
+pub fn known_view(s: &[u8], at: usize) -> ViewSpan
     requires { ⌜ T (isGot (view .read (drop at (now s)))) ⌝ }
-    ensures { λ r. ⌜ ViewThere (now (s .entry)) (view .read (drop at (now (s .entry)))) r ⌝ }
-    ensures { λ r. ⌜ TableThere (now (s .entry)) (table .read (drop (at + 16) (now (s .entry)))) (r .table) ⌝ }
+    ensures { λ r. ⌜ ViewKnown (now (s .entry)) at r ⌝ }
 {
     let table = table_there(s, at + 16);
     let p = table.past;

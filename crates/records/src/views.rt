@@ -78,7 +78,7 @@ fn view_of(s: &[u8], at: usize, t: TableSpan) -> ViewRead
 }
 
 // The view at a place.
-pub fn view_at(s: &[u8], at: usize) -> ViewRead
+pub fn view_span(s: &[u8], at: usize) -> ViewRead
     requires { ⌜ at ≤ length (now s) ⌝ }
     ensures { λ r. ⌜ ViewFound (now (s .entry)) (view .read (drop at (now (s .entry)))) r ⌝ }
 {

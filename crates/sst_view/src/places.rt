@@ -40,7 +40,7 @@ pub fn run_in_image(s: &[u8], place: usize) -> RunPlaced
     requires { ⌜ T (isGot (image .read (now s))) ⌝ }
     ensures { λ r. ⌜ RunCalled (now (s .entry)) (viewsAt (valuesOf (image .read (now (s .entry)))) place) r ⌝ }
 {
-    if records::runs_there(s) <= place {
+    if records::runs_there(s, 0) <= place {
         return RunPlaced::Stop(9);
     }
     RunPlaced::At(records::run_there(s, runs_end(s, 1, place)))

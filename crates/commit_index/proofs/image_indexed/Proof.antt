@@ -5,8 +5,8 @@ use borrow.Author.Needs.{needs}
 use Rattle.commit_index.proofs.image_indexed.Statement.{statement}
 use Rattle.commit_index.proofs.image_indexed.Tie as tie
 
-count-at-requires : tie.Need-count-at-requires
-count-at-requires c κs = search (needs, image-indexed-exits)
+runs-at-requires : tie.Need-runs-at-requires
+runs-at-requires c κs = search (needs, image-indexed-exits)
 
 enum-known-k : tie.Need-enum-known-k
 enum-known-k c = search (needs, image-indexed-exits)
@@ -22,6 +22,9 @@ enum-known-k-2 c = search (needs, image-indexed-exits)
 
 enum-known-next : tie.Need-enum-known-next
 enum-known-next c = search (needs, image-indexed-exits)
+
+at-end-requires : tie.Need-at-end-requires
+at-end-requires c κs = search (needs, image-indexed-exits)
 
 same-length : tie.Need-same-length
 same-length c = search (needs, image-indexed-exits)
@@ -48,12 +51,13 @@ pub image-indexed-spec : {M : Type 1} → statement M
 image-indexed-spec =
     tie.close
     (tie.spec
-    count-at-requires
+    runs-at-requires
     enum-known-k
     enum-known-n
     runs-indexed-requires
     enum-known-k-2
     enum-known-next
+    at-end-requires
     same-length
     returns
     returns-2

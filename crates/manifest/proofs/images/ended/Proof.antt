@@ -11,6 +11,9 @@ enum-known-r c = search (needs, ended-exits)
 enum-known-r-2 : tie.Need-enum-known-r-2
 enum-known-r-2 c = search (needs, ended-exits)
 
+at-end-requires : tie.Need-at-end-requires
+at-end-requires c κs = search (needs, ended-exits)
+
 returns : tie.Need-returns
 returns c = search (needs, ended-exits)
 
@@ -21,4 +24,4 @@ returns-3 : tie.Need-returns-3
 returns-3 c = search (needs, ended-exits)
 
 pub ended-spec : {M : Type 1} → statement M
-ended-spec = tie.close (tie.spec enum-known-r enum-known-r-2 returns returns-2 returns-3)
+ended-spec = tie.close (tie.spec enum-known-r enum-known-r-2 at-end-requires returns returns-2 returns-3)

@@ -5,8 +5,8 @@ use borrow.Author.Needs.{needs}
 use Rattle.manifest.proofs.images.image_front.Statement.{statement}
 use Rattle.manifest.proofs.images.image_front.Tie as tie
 
-count-at-requires : tie.Need-count-at-requires
-count-at-requires c κs = search (needs, image-exits)
+runs-at-requires : tie.Need-runs-at-requires
+runs-at-requires c κs = search (needs, image-exits)
 
 enum-known-k : tie.Need-enum-known-k
 enum-known-k c = search (needs, image-exits)
@@ -26,4 +26,4 @@ returns-2 c = search (needs, image-exits)
 pub image-front-spec : {M : Type 1} → statement M
 image-front-spec =
     tie.close
-    (tie.spec count-at-requires enum-known-k enum-known-n runs-judged-requires returns returns-2)
+    (tie.spec runs-at-requires enum-known-k enum-known-n runs-judged-requires returns returns-2)

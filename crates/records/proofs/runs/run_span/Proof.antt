@@ -1,9 +1,9 @@
--- `records::run_at` meets its contract.
+-- `records::run_span` meets its contract.
 -- Assumes nothing.
 use Rattle.records.proofs.HeadExits.{run-exits}
 use borrow.Author.Needs.{needs}
-use Rattle.records.proofs.runs.run_at.Statement.{statement}
-use Rattle.records.proofs.runs.run_at.Tie as tie
+use Rattle.records.proofs.runs.run_span.Statement.{statement}
+use Rattle.records.proofs.runs.run_span.Tie as tie
 
 sub-if1 : tie.Need-sub-if1
 sub-if1 c = search (needs, run-exits)
@@ -32,8 +32,8 @@ add-t6 c = search (needs, run-exits)
 returns-4 : tie.Need-returns-4
 returns-4 c = search (needs, run-exits)
 
-pub run-at-spec : {M : Type 1} → statement M
-run-at-spec =
+pub run-span-spec : {M : Type 1} → statement M
+run-span-spec =
     tie.close
     (tie.spec
     sub-if1

@@ -1,9 +1,9 @@
--- `records::view_at` meets its contract, field by field.
+-- `records::view_span` meets its contract, field by field.
 -- Assumes nothing.
 use Rattle.records.proofs.ViewExits.{view-exits}
 use borrow.Author.Needs.{needs}
-use Rattle.records.proofs.views.view_at.Statement.{statement}
-use Rattle.records.proofs.views.view_at.Tie as tie
+use Rattle.records.proofs.views.view_span.Statement.{statement}
+use Rattle.records.proofs.views.view_span.Tie as tie
 
 sub-if1 : tie.Need-sub-if1
 sub-if1 c = search (needs, view-exits)
@@ -32,8 +32,8 @@ returns-2 c = search (needs, view-exits)
 returns-3 : tie.Need-returns-3
 returns-3 c = search (needs, view-exits)
 
-pub view-at-spec : {M : Type 1} → statement M
-view-at-spec =
+pub view-span-spec : {M : Type 1} → statement M
+view-span-spec =
     tie.close
     (tie.spec
     sub-if1
