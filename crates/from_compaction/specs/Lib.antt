@@ -1,1 +1,2 @@
 pub mod ProgressCalls
+pub mod ProgressLaws
