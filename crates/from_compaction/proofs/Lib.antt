@@ -1,3 +1,4 @@
 pub mod Progress
 pub mod Answered
 pub mod Examples
+pub mod RangeExits
