@@ -2,3 +2,4 @@ pub mod Progress
 pub mod Answered
 pub mod Examples
 pub mod RangeExits
+pub mod CallExits
