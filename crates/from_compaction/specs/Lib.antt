@@ -1,0 +1,4 @@
+pub mod ProgressCalls
+pub mod Ranges
+pub mod ProgressLaws
+pub mod ProgressExamples
