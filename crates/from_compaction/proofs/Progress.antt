@@ -11,21 +11,21 @@ use Rattle.base.specs.Pick.{pick}
 use Rattle.base.specs.Lists.{All, All-map, All-append, Pairwise, Pairwise-append, map-append}
 use Rattle.key.specs.Order.{Key}
 use Rattle.comparable_range.specs.Range.{Bound, unbounded, included, excluded, Range, holds}
-use Rattle.comparable_range.specs.Cut.{Cut, below, before, after, cutAtMost, _≼_, _≺_, startCut, endCut}
+use Rattle.comparable_range.specs.Cut.{Cut, below, after, cutAtMost, _≼_, _≺_, startCut, endCut}
 use Rattle.comparable_range.proofs.Cut.{≼-trans, ≼-refl, ≺-≼, ≼-not-≺, before-≺-after}
 use Rattle.comparable_range.proofs.ByCuts.{held-parts, ≺-passes}
-use Rattle.comparable_range.proofs.Keyless.{not-held}
-use Rattle.records.specs.Values.{Table, Part, Plan}
+use Rattle.records.specs.Values.{Part, Plan}
 use Rattle.manifest.specs.Checks.{isExcluded}
 use Rattle.incremental_progress.specs.Intervals.{Interval, listed, startBound, endBound, toRange, anyHolds, bit, times}
-use Rattle.incremental_progress.specs.Parts.{keyOf, plannedInterval, lastWritten, upToKey, durable, intervals}
+use Rattle.incremental_progress.specs.Parts.{keyOf, plannedInterval, upToKey, durable, intervals}
 use Rattle.incremental_progress.specs.Checks.{isIncluded, plannedFrom, plannedInOrder}
 use Rattle.incremental_progress.specs.DemandLaws.{partAt}
 use Rattle.incremental_progress.specs.Members.{In, here, further}
 use Rattle.incremental_progress.proofs.Span.{both-true}
 use Rattle.incremental_progress.proofs.Checks.{job-parts}
+use Rattle.incremental_progress.proofs.LastKey.{written-outside}
 use Rattle.incremental_progress.proofs.ProgressLaws.{later-holds-more}
-use Rattle.incremental_progress.proofs.Job.{fromCut, toCut, Ascending, written, none-some, Planned, no-parts, with-part, Status, finished, nothing, ongoing, status}
+use Rattle.incremental_progress.proofs.Job.{fromCut, toCut, written, Planned, no-parts, with-part, Status, finished, nothing, ongoing, status}
 use Rattle.from_compaction.specs.ProgressCalls.{fromCompaction}
 use Rattle.from_compaction.specs.ProgressLaws.{DurableKeysAreHeldOnce, LastWrittenKeyIsInNone, LaterAnswersHoldMore, AtMostOneAPart, IntervalsAnsweredAscend, IntervalsAnsweredPass, CompletedPartsAnswerTheirPlan, UnfinishedPartsAnswerUpToTheirLastKey}
 
@@ -195,43 +195,16 @@ unfinished-parts-answer-up-to-their-last-key j c n p b e d w k =
     (λ h. rw (d, w, k, h .start) (here refl))
 
 -- ---- the last written key of an unfinished part
--- a range that ends before the key, or starts after it
-ends-sooner : {b : Key} (r : Range) → endCut (r .end) ≼ before b → holds r b ≡ false
-ends-sooner {b} r h = not-held r b (λ s e. ≼-not-≺ (≼-trans e h) (before-≺-after b))
+held-by-none : (b : Key) (iv : Interval) (ivs : List Interval) (h : Bool) → holds (toRange iv) b ≡ h → pick h true (anyHolds ivs b) ≡ false
+    → (holds (toRange iv) b ≡ false) × (anyHolds ivs b ≡ false)
+held-by-none b iv ivs true f e = absurd (true≢false e)
+held-by-none b iv ivs false f e = (f, e)
 
-starts-later : {b : Key} (r : Range) → after b ≼ startCut (r .start) → holds r b ≡ false
-starts-later {b} r h = not-held r b (λ s e. ≼-not-≺ (≼-trans h s) (before-≺-after b))
-
--- it lies in its part's planned range, ..
-in-plan : {e c : Cut} {b : Key} (ts : List Table) → Ascending e c ts → lastWritten ts ≡ some b → (c ≼ before b) × (after b ≼ e)
-unfolding lastWritten
-in-plan [] a i = absurd (none-some i)
-in-plan {b = b} (t ∷ ts) a i =
-    let w = written ts a in
-    let x : w .key ≡ b = cc (w .is) in
-    (rw (← x) (w .from), rw (← x) (w .to))
-
--- .. not in the part's own range, ..
-not-in-own : {b : Key} (p : Part) → Status p → p .completed ≡ false → lastWritten (p .outputs) ≡ some b → All (λ r. holds r b ≡ false) (partRanges p)
-not-in-own p (nothing d e f) c i = rw e tt
-not-in-own p (finished d e f) c i = absurd (true≢false (sym d ∙ c))
-not-in-own {b} p (ongoing k d j e f m n l) c i = let x : k ≡ b = cc in rw (e, x) (ends-sooner _ (≼-refl (before b)), tt)
-
--- .. and no other planned range holds it
-in-none : {c : Cut} {b : Key} {ps : List Part} → Planned c ps → (n : ℕ) (p : Part) → partAt n ps ≡ some p → p .completed ≡ false → lastWritten (p .outputs) ≡ some b
-    → All (λ r. holds r b ≡ false) (rangesOf ps) × (c ≼ before b)
-in-none no-parts n p e d i = absurd (let z : _≡_ {A = ℕ} 0 1 = cc in omega arith)
-in-none {b = b} (with-part {p = u} {ps = us} l r a rest) zero p e d i =
-    let x : u ≡ p = cc in
-    let k = in-plan {b = b} (u .outputs) a (rw x i) in
-    let own = not-in-own {b = b} u (status u a) (rw x d) (rw x i) in
-    let others = All-map (λ q h. starts-later q (≼-trans (k .1) h)) (rangesOf us) (lying rest .from) in
-    (rw (one-part-more u us) (All-append _ (partRanges u) (rangesOf us) own others), ≼-trans l (k .0))
-in-none {b = b} (with-part {p = u} {ps = us} l r a rest) (suc n) p e d i =
-    let h = in-none {b = b} rest n p e d i in
-    let own = All-map (λ q k. ends-sooner q (≼-trans (k .ends) (h .1))) (partRanges u) (part-between u (status u a) r) in
-    (rw (one-part-more u us) (All-append _ (partRanges u) (rangesOf us) own (h .0)), ≼-trans l (≼-trans (≺-≼ r) (h .1)))
+none-holds : (b : Key) (ivs : List Interval) → anyHolds ivs b ≡ false → All (λ r. holds r b ≡ false) (map toRange ivs)
+unfolding anyHolds
+none-holds b [] e = tt
+none-holds b (iv ∷ ivs) e = let h = held-by-none b iv ivs (holds (toRange iv) b) refl e in (h .0, none-holds b ivs (h .1))
 
 pub last-written-key-is-in-none : LastWrittenKeyIsInNone
 unfolding fromCompaction
-last-written-key-is-in-none j c b u = in-none (job-parts j c) (u .place) (u .part) (u .there) (u .incomplete) (u .ends) .0
+last-written-key-is-in-none j c b u = none-holds b (intervals (j .parts)) (written-outside c u)

@@ -76,8 +76,11 @@ job-passes {i} {j} p =
       outputs = p .outputs;
     }
 
+pub written-outside : {j : Job} {b : Key} → JobPasses j → Unfinished j b → anyHolds (intervals (j .parts)) b ≡ false
+written-outside {j} p u = outside-all (job-parts j p) (u .place) (u .part) (u .there) (u .incomplete) (u .ends) .0
+
 pub unfinished-outside : {i : Image} {j : Job} {b : Key} → Passes i j → Unfinished j b → anyHolds (intervals (j .parts)) b ≡ false
-unfinished-outside {j = j} p u = outside-all (job-parts j (job-passes p)) (u .place) (u .part) (u .there) (u .incomplete) (u .ends) .0
+unfinished-outside p u = written-outside (job-passes p) u
 
 pub last-written-key-is-outside : LastWrittenKeyIsOutside
 last-written-key-is-outside given record′ ids room new progress b e r u =

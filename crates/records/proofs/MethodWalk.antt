@@ -14,12 +14,11 @@ use mir.Syntax.{Fn, Lifetime, Ty, tyRef, imm, tyInt, named, erased, w8, w64, loc
 use mir.Val.{Val, WT, hasTy, vint}
 use base.Logic.{SProp, ent, sep, snd∗, exE, id⊢}
 use base.Fml.{Lft, Share, Fml, ftrue, flft}
-use prog.Memory.{Memory}
-use prog.Routine.{Routine, Name}
+use prog.Routine.{Name}
 use prog.Wp.{Heap, Calls, Loops, WpFn, Tables}
 use ghost.Atoms.{Atoms, sem}
 use contract.Lifetimes.{Lfts}
-use contract.Monad.{Fun, fact}
+use contract.Monad.{fact}
 use types.Kit.{Given, ‵, raw, _⊛_, given, ⋆, some, later, _$_, _∵_, !, qed, by, move, drop, use1, use2, split, learn, pick, fsplit, fjoin, suffices, frame, await, done}
 use types.Part.{whole, sub, look-in}
 use types.Run.{look, init, forget, stop, fld, from, load, of-opd, and-then, no-more, assigns, land, returns, enter, alloc1, alloc0, params1, pass1, pass0, free1, free0}

@@ -10,11 +10,10 @@ use lib.ListN.{length, drop}
 use Rattle.format.specs.Got.{isGot}
 use Rattle.records.specs.Layouts.{upTo, view, image}
 use Rattle.records.specs.Spans.{CountFound, runHead, RunFound, ViewFound}
-use Rattle.records.specs.There.{RunsThere, RunThere, ViewKnown}
+use Rattle.records.specs.There.{RunsThere, RunThere}
 use Rattle.records.specs.declared.runs.CountRead.{CountRead}
 use Rattle.records.specs.declared.runs.RunRead.{RunRead}
 use Rattle.records.specs.declared.views.ViewRead.{ViewRead}
-use Rattle.records.specs.declared.views.ViewSpan.{ViewSpan}
 use Rattle.records.specs.declared.there.RunSpan.{RunSpan}
 
 -- ---- an image that is read
