@@ -1,3 +1,4 @@
 pub mod PartExits
 pub mod PutExits
 pub mod CallExits
+pub mod Laws

@@ -1,2 +1,3 @@
 pub mod SubtractCalls
 pub mod Found
+pub mod SubtractLaws
