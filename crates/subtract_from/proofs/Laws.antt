@@ -9,22 +9,20 @@ use mathlib.Core.List.{List, [], _∷_, _++_}
 use lib.ListN.{length}
 use Rattle.base.specs.Pick.{pick, and-first, and-second}
 use Rattle.base.specs.Lists.{All, All-map, All-append, Pairwise, Pairwise-append}
-use Rattle.key.specs.Order.{Key, cmpKey, cmpNumber}
-use Rattle.comparable_range.specs.Range.{Bound, unbounded, included, excluded, Range, boundsPass, nonEmpty, startHolds, endHolds, holds, cmpBound, startSide, endSide, chosen, overlap, intersectSides, intersect}
+use Rattle.key.specs.Order.{Key}
+use Rattle.comparable_range.specs.Range.{Bound, unbounded, included, excluded, Range, nonEmpty, startSide, endSide, chosen, overlap, intersectSides, intersect}
 use Rattle.comparable_range.specs.declared.Sides.the-variants.{Nothing, From}
 use Rattle.comparable_range.specs.Cut.{before, _≼_, startCut, endCut}
 use Rattle.comparable_range.proofs.Cut.{≼-trans, ≺-≼}
 use Rattle.comparable_range.proofs.Lattice.{sooner-≼-right, ≼-later-right}
 use Rattle.comparable_range.proofs.ByCuts.{passes-≺, start-side-cut, end-side-cut}
-use Rattle.comparable_range.proofs.Keyless.{included-start-is-held, keyless-pass-and-hold-none}
-use Rattle.comparable_range.specs.Laws.{keylessBounds}
 use Rattle.manifest.specs.Checks.{isExcluded}
 use Rattle.incremental_progress.specs.Checks.{isIncluded}
 use Rattle.incremental_progress.specs.Intervals.{listed, partBefore, partFrom, subtractFrom, startBound, endBound, toRange}
 use Rattle.incremental_progress.specs.Parts.{keyOf}
 use Rattle.incremental_progress.proofs.Subtraction.{Valid, times-subtract, subtract-absorbs, subtract-commutes}
 use Rattle.subtract_from.specs.SubtractCalls.{fromPlannedRange, halfOpen}
-use Rattle.subtract_from.specs.SubtractLaws.{IsInterval, less, KeysOutsideAreHeldOnce, AtMostTwoParts, PartsAscend, PartsPass, LesserIsAbsorbed, OneAfterTheOtherCommute, keylessInterval, HoldsNoKey, OneIntervalHoldsNoKey, KeylessIntervalHoldsNoKey, fromEmptyKey, KeylessIntervalWritesTheEmptyKey}
+use Rattle.subtract_from.specs.SubtractLaws.{IsInterval, less, KeysOutsideAreHeldOnce, AtMostTwoParts, PartsAscend, PartsPass, LesserIsAbsorbed, OneAfterTheOtherCommute}
 
 -- ---- an interval and the range that gives it
 start-back : (b : Bound) → not (isExcluded b) ≡ true → startBound (keyOf b) ≡ b
