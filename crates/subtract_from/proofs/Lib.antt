@@ -4,3 +4,4 @@ pub mod CallExits
 pub mod Laws
 pub mod Keyless
 pub mod Answered
+pub mod Examples
