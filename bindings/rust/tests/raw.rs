@@ -3,8 +3,8 @@ mod common;
 
 use bilqarush::raw::*;
 use common::{
-    anchors, cut_view, example, excluded, image, included, index, plan, range, run, sized_table,
-    whole_view, UNWRITTEN,
+    anchors, cut_view, example, excluded, image, included, index, job, part, plan, range, run,
+    sized_table, table, whole_view, UNWRITTEN,
 };
 use std::ops::Bound::Unbounded;
 
