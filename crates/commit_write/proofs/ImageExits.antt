@@ -16,11 +16,11 @@ use Rattle.commit_rows.specs.Numbers.{runOf}
 use Rattle.commit_rows.specs.Bytes.{RowInside}
 use Rattle.commit_rows.specs.declared.rows.Row.{Row}
 use Rattle.commit_rows.specs.declared.runs.RunRow.{RunRow}
-use Rattle.commit_write.specs.Put.{Put}
+use Rattle.range_write.specs.Put.{Put}
 use Rattle.commit_write.specs.Rows.{rowIn, countFrom, viewRows, RowThere, RowsThere}
 use Rattle.commit_write.specs.Runs.{runBytes, runsBytes, newImageBytes, runsIn, planned, allRows, plannedImage, Bucketed, RunFits, RunsFit, Writable, RunWritable}
 use Rattle.commit_write.specs.declared.runs.Counts.{Counts}
-use Rattle.commit_write.proofs.Pieces.{put-length, put-same, put-none, first-room, second-room, both-put}
+use Rattle.range_write.proofs.Pieces.{put-length, put-same, put-none, first-room, second-room, both-put}
 use Rattle.commit_write.proofs.Counts.{count-append, count-all, rows-numbered, rows-take, rows-skip}
 
 -- ---- a run, and those after it

@@ -1,4 +1,3 @@
-pub mod Pieces
 pub mod ViewExits
 pub mod Counts
 pub mod Writing

@@ -15,13 +15,13 @@ use Rattle.commit_rows.specs.Bytes.{between}
 use Rattle.commit_rows.specs.declared.rows.Row.{Row}
 use Rattle.commit_rows.specs.declared.runs.RunKind.the-variants.{Other, Source, Destination}
 use Rattle.commit_rows.specs.declared.runs.RunRow.{RunRow}
-use Rattle.commit_write.specs.Put.{Put}
+use Rattle.range_write.specs.Put.{Put}
 use Rattle.commit_write.specs.Rows.{rowIn, countFrom, viewRows, viewBytes, numberedBytes, RowThere, RowsThere}
 use Rattle.commit_write.specs.Buckets.{byBucket, bucketAt, placedRows, BucketThere, BucketsThere, destinationRows}
 use Rattle.commit_write.specs.BucketLaws.{by-all}
 use Rattle.commit_write.specs.Runs.{headBytes, sourceBytes, destinationBytes, runBytes, Bucketed, Copied, DestinationFits, RunWritable}
 use Rattle.commit_write.specs.declared.runs.Reached.{Reached}
-use Rattle.commit_write.proofs.Pieces.{put-length, put-same, same-room, same-length, first-room, second-room, both-put}
+use Rattle.range_write.proofs.Pieces.{put-length, put-same, same-room, same-length, first-room, second-room, both-put}
 use Rattle.commit_write.proofs.Counts.{rows-length}
 use Rattle.commit_write.proofs.Placing.{order-long, chosen-bytes, chosen-front}
 

@@ -2,28 +2,24 @@
 -- Assumes nothing.
 use Prim.Native.Nat.{ℕ, _+_, _-_, _≤_, _<_, _^_}
 use native.Mathlib.Omega.{arith}
-use mathlib.Core.Path.{_≡_, refl, sym, ap, subst, _∙_}
+use mathlib.Core.Path.{_≡_, refl, sym, ap, _∙_}
 use mathlib.Core.List.{List, [], _∷_, _++_}
 use lib.ListN.{length, take, drop}
 use lib.Seq.{take-take}
 use mir.Val.{Fits}
 use mir.Syntax.{w64}
-use Rattle.base.specs.Splice.{splice, length-splice, splice-splice}
+use Rattle.base.specs.Splice.{splice}
 use Rattle.key.specs.Order.{Key}
-use Rattle.comparable_range.specs.Range.{of, boundOf, rangeOf}
-use Rattle.comparable_range.specs.declared.Kind.{Kind}
-use Rattle.comparable_range.specs.declared.Kind.the-variants.{Unbounded, Included, Excluded}
+use Rattle.comparable_range.specs.Range.{of, rangeOf}
 use Rattle.comparable_range.specs.declared.Side.{Side}
 use Rattle.comparable_range.specs.declared.Side.the-variants.{Second}
-use Rattle.format.specs.Number.{writeNumber}
-use Rattle.format.specs.Key.{writeKey}
-use Rattle.format.specs.Range.{headByte, kindOfBound, BoundInside, writeBound, writeRange}
-use Rattle.format.proofs.Layouts.{number-length, key-length}
+use Rattle.format.specs.Range.{BoundInside, writeRange}
 use Rattle.commit_rows.specs.Bytes.{between, newIdBytes, cutBytes, wholeBytes, rowRange, RowInside, rowBytes}
 use Rattle.commit_rows.specs.declared.rows.Form.the-variants.{Whole, Output, CutOutput, Cut}
 use Rattle.commit_rows.specs.declared.rows.Row.{Row}
-use Rattle.commit_write.specs.Put.{Put, sidedRange}
-use Rattle.commit_write.proofs.Pieces.{put-here, put-none, put-same, same-room, same-length, put-length, first-room, second-room, both-put, both-length, one-room, two-room, three-room, all-put, all-length}
+use Rattle.range_write.specs.Put.{Put}
+use Rattle.commit_write.specs.Rows.{sidedRange}
+use Rattle.range_write.proofs.Pieces.{put-here, put-same, same-room, same-length, put-length, first-room, second-room, both-put, both-length, one-room, two-room, three-room, all-put, all-length}
 
 -- ---- ids
 
@@ -60,111 +56,26 @@ module _ (d : List ℕ) (to : ℕ) (old : List ℕ) (ids : List ℕ) (ten : ℕ)
 
 pub ruleset id-exits = (time-inside, time-room, ten-room, id-put, id-same)
 
--- ---- put_key: the length, and the key
-module _ (d : List ℕ) (to : ℕ) (k : Key) (room : to + length (writeKey k) ≤ length d) where
-  long : length (writeKey k) ≡ 2 + length k
-  long = key-length k
-
-  pub count-room : to + 2 ≤ length d
-  count-room = omega (arith, long, room)
-
-  pub key-fits : length d < 2 ^ 64 → Fits w64 (to + 2 + length k)
-  key-fits h = omega (arith, long, room)
-
-  module _ {e : List ℕ} (p : e ≡ splice d to (writeNumber 2 (length k))) where
-    number-same : length e ≡ length d
-    number-same = let l = number-length 2 (length k) in ap length p ∙ length-splice d to (writeNumber 2 (length k)) (omega (arith, count-room))
-
-    pub bytes-room : to + 2 + length k ≤ length e
-    bytes-room = omega (arith, number-same, long, room)
-
-    module _ {f : List ℕ} (q : f ≡ splice e (to + 2) k) where
-      pub key-put : Put d to (writeKey k) f (to + 2 + length k)
-      unfolding writeKey
-      key-put =
-          let l = number-length 2 (length k) in
-          record {
-            is = q ∙ ap (λ z. splice z (to + 2) k) p ∙ splice-splice d to (writeNumber 2 (length k)) k (to + 2) (omega (arith, l)) (omega (arith, l, count-room));
-            past-is = omega (arith, long);
-          }
-
-      pub key-same : length f ≡ length d
-      key-same = ap length q ∙ length-splice e (to + 2) k bytes-room ∙ number-same
-
-pub ruleset key-exits = (count-room, key-fits, bytes-room, key-put, key-same)
-
--- ---- put_bound
-module _ (k : Kind) (key : Key) where
-  bound-none : k ≡ Unbounded → [] ≡ writeBound (boundOf k key)
-  unfolding writeBound
-  bound-none e = rw e
-
-  pub bound-included : k ≡ Included → writeKey key ≡ writeBound (boundOf k key)
-  unfolding writeBound
-  bound-included e = rw e
-
-  pub bound-excluded : k ≡ Excluded → writeKey key ≡ writeBound (boundOf k key)
-  unfolding writeBound
-  bound-excluded e = rw e
-
-pub unbounded-put : (d : List ℕ) (to : ℕ) (k : Kind) (key : Key) → k ≡ Unbounded → Put d to (writeBound (boundOf k key)) d to
-unbounded-put d to k key e = put-same (put-none d to) (bound-none k key e)
-
-pub ruleset bound-exits = (unbounded-put, bound-included, bound-excluded, put-same, same-room, same-length)
-
--- ---- put_range: the flag and the head, and the bounds
-kind-back : (k : Kind) (key : Key) → kindOfBound (boundOf k key) ≡ k
-kind-back Unbounded key = refl
-kind-back Included key = refl
-kind-back Excluded key = refl
-
-module _ (d : List ℕ) (to : ℕ) (ks : Kind) (s : Key) (ke : Kind) (e : Key) (room : to + length (128 ∷ writeRange (rangeOf ks s ke e)) ≤ length d) where
-  abbrev start : List ℕ
-  start = writeBound (boundOf ks s)
-
-  abbrev end : List ℕ
-  end = writeBound (boundOf ke e)
-
-  range-is : 128 ∷ writeRange (rangeOf ks s ke e) ≡ (128 ∷ headByte ks ke ∷ []) ++ (start ++ end)
-  unfolding writeRange
-  range-is = rw (kind-back ks s, kind-back ke e)
-
-  range-roomy : to + length ((128 ∷ headByte ks ke ∷ []) ++ (start ++ end)) ≤ length d
-  range-roomy = subst (λ (z : List ℕ). to + length z ≤ length d) range-is room
-
+-- ---- put_flagged: one byte, and the range
+module _ (d : List ℕ) (to : ℕ) (x : List ℕ) (room : to + length (128 ∷ x) ≤ length d) where
   pub flag-room : to < length d
-  flag-room = omega (arith, one-room d to (128 ∷ headByte ks ke ∷ []) start end range-roomy)
+  flag-room = omega (arith, room)
 
-  module _ {f : List ℕ} (p : f ≡ splice d to (128 ∷ [])) where
-    flag-same : length f ≡ length d
-    flag-same = ap length p ∙ length-splice d to (128 ∷ []) (omega (arith, flag-room))
+  module _ {e : List ℕ} (p : e ≡ splice d to (128 ∷ [])) where
+    flag-put : Put d to (128 ∷ []) e (to + 1)
+    flag-put = put-here d to (128 ∷ []) p refl
 
-    pub head-room : to + 1 < length f
-    head-room = omega (arith, flag-same, one-room d to (128 ∷ headByte ks ke ∷ []) start end range-roomy)
+    pub flagged-room : to + 1 + length x ≤ length e
+    flagged-room = second-room d to (128 ∷ []) x room flag-put
 
-    module _ {g : List ℕ} {h : ℕ} (c : h ≡ headByte ks ke) (q : g ≡ splice f (to + 1) (h ∷ [])) where
-      headed : Put d to (128 ∷ headByte ks ke ∷ []) g (to + 2)
-      headed =
-          record {
-            is = q ∙ ap (λ z. splice z (to + 1) (h ∷ [])) p ∙ splice-splice d to (128 ∷ []) (h ∷ []) (to + 1) refl (omega (arith, flag-room)) ∙ ap (λ z. splice d to (128 ∷ z ∷ [])) c;
-            past-is = refl;
-          }
+    module _ {f : List ℕ} {past : ℕ} (q : Put e (to + 1) x f past) where
+      pub flagged-put : Put d to (128 ∷ x) f past
+      flagged-put = both-put d to (128 ∷ []) x room flag-put q
 
-      pub start-room : to + 2 + length (writeBound (boundOf ks s)) ≤ length g
-      start-room = two-room d to (128 ∷ headByte ks ke ∷ []) start end range-roomy headed
+      pub flagged-same : length f ≡ length d
+      flagged-same = both-length d to (128 ∷ []) x room flag-put q
 
-      module _ {o : List ℕ} {a : ℕ} (u : Put g (to + 2) (writeBound (boundOf ks s)) o a) where
-        pub end-room : a + length (writeBound (boundOf ke e)) ≤ length o
-        end-room = three-room d to (128 ∷ headByte ks ke ∷ []) start end range-roomy headed u
-
-        module _ {o′ : List ℕ} {b : ℕ} (v : Put o a (writeBound (boundOf ke e)) o′ b) where
-          pub range-put : Put d to (128 ∷ writeRange (rangeOf ks s ke e)) o′ b
-          range-put = put-same (all-put d to (128 ∷ headByte ks ke ∷ []) start end range-roomy headed u v) (sym range-is)
-
-          pub range-same : length o′ ≡ length d
-          range-same = all-length d to (128 ∷ headByte ks ke ∷ []) start end range-roomy headed u v
-
-pub ruleset range-exits = (flag-room, head-room, start-room, end-room, range-put, range-same)
+pub ruleset flag-exits = (flag-room, flagged-room, flagged-put, flagged-same)
 
 -- ---- put_visible: the keys stand in the slices of their sides
 module _ (image job : List ℕ) (a b : Side) (r : Row) {s e : List ℕ} (x : s ≡ of a image job) (y : e ≡ of b image job) where

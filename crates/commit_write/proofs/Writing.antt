@@ -13,9 +13,9 @@ use Rattle.base.specs.Rows.{rowAt}
 use Rattle.commit_rows.specs.Numbers.{rowOf}
 use Rattle.commit_rows.specs.Bytes.{RowInside, rowBytes}
 use Rattle.commit_rows.specs.declared.rows.Row.{Row}
-use Rattle.commit_write.specs.Put.{Put}
+use Rattle.range_write.specs.Put.{Put}
 use Rattle.commit_write.specs.Rows.{rowIn, countFrom, viewRows, viewBytes, numberedBytes, RowThere, RowsThere}
-use Rattle.commit_write.proofs.Pieces.{put-length, put-none, put-same, second-room, both-put}
+use Rattle.range_write.proofs.Pieces.{put-length, put-none, put-same, second-room, both-put}
 use Rattle.commit_write.proofs.Counts.{length-count, count-at, all-at, take-more}
 
 -- the first i of the rows with the numbers ks are put at `to` of d

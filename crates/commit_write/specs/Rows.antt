@@ -4,6 +4,9 @@ use mathlib.Core.List.{List, [], _∷_, map, flatMap}
 use lib.ListN.{length}
 use Rattle.base.specs.Lists.{All}
 use Rattle.base.specs.Rows.{rowAt}
+use Rattle.comparable_range.specs.Range.{Range, of}
+use Rattle.comparable_range.specs.declared.Side.{Side}
+use Rattle.format.specs.Range.{boundIn}
 use Rattle.commit_rows.specs.Numbers.{rowOf}
 use Rattle.commit_rows.specs.Bytes.{RowInside, rowBytes}
 use Rattle.commit_rows.specs.declared.rows.Row.{Row}
@@ -37,3 +40,7 @@ RowsThere image job ids t from n = All (RowThere image job ids t) (countFrom fro
 -- the bytes of the rows with the numbers ks
 abbrev pub numberedBytes : List ℕ → List ℕ → List ℕ → List ℕ → List ℕ → List ℕ
 numberedBytes image job ids t ks = flatMap (λ k. rowBytes image job ids (rowIn t k)) ks
+
+-- the range of a row, each bound out of the image (first) or out of the job (second)
+abbrev pub sidedRange : Side → Side → List ℕ → List ℕ → Row → Range
+sidedRange a b image job r = record { start = boundIn (of a image job) (r .start); end = boundIn (of b image job) (r .end) }

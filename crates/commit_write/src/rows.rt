@@ -3,7 +3,7 @@ use crate::views::put_view;
 ghost use Prim.Native.Nat.{_≤_, _+_};
 ghost use lib.ListN.{length, take};
 ghost use Rattle.base.specs.Lists.{All};
-ghost use Rattle.commit_write.specs.Put.{Put};
+ghost use Rattle.range_write.specs.Put.{Put};
 ghost use Rattle.commit_write.specs.Rows.{viewRows, viewBytes, numberedBytes, RowThere, RowsThere};
 
 // The n rows from a row on.

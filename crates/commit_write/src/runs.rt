@@ -9,7 +9,7 @@ ghost use mathlib.Core.Path.{_≡_};
 ghost use Prim.Native.Nat.{_≤_, _+_};
 ghost use lib.ListN.{length};
 ghost use Rattle.base.specs.Splice.{splice};
-ghost use Rattle.commit_write.specs.Put.{Put};
+ghost use Rattle.range_write.specs.Put.{Put};
 ghost use Rattle.commit_write.specs.Runs.{headBytes, runAt, plannedImage, Writable, RunWritable};
 
 // How many runs there are, and how many outputs go into the destination.

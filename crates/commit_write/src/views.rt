@@ -10,13 +10,13 @@ ghost use mathlib.Core.Path.{_≡_};
 ghost use mathlib.Core.List.{[], _∷_, _++_};
 ghost use Prim.Native.Nat.{_≤_, _+_};
 ghost use lib.ListN.{length};
-ghost use Rattle.comparable_range.specs.Range.{of, boundOf, rangeOf};
-ghost use Rattle.format.specs.Key.{writeKey};
-ghost use Rattle.format.specs.Range.{BoundInside, writeBound, writeRange};
+ghost use Rattle.comparable_range.specs.Range.{of, rangeOf};
+ghost use Rattle.format.specs.Range.{BoundInside, writeRange};
 ghost use Rattle.incremental_progress.specs.Draws.{newId};
 ghost use Rattle.commit_rows.specs.Bytes.{between, wholeBytes, RowInside, rowBytes};
 ghost use Rattle.commit_rows.specs.declared.rows.Form.the-variants.{CutOutput, Cut};
-ghost use Rattle.commit_write.specs.Put.{Put, sidedRange};
+ghost use Rattle.range_write.specs.Put.{Put};
+ghost use Rattle.commit_write.specs.Rows.{sidedRange};
 
 // The bytes of src from a place up to another.
 pub fn put_part(src: &[u8], a: usize, b: usize, out: &mut [u8], to: usize) -> usize
@@ -47,37 +47,13 @@ fn put_new_id(old: ViewId, ids: &[u8], ten: usize, out: &mut [u8], to: usize) ->
     put_part(ids, ten, ten + 10, out, past)
 }
 
-// A key with its length.
-fn put_key(key: &[u8], out: &mut [u8], to: usize) -> usize
-    requires { ⌜ to + length (writeKey (now key)) ≤ length (now out) ⌝ }
-    ensures { λ r. ⌜ Put (now (out .entry)) to (writeKey (now (key .entry))) (now (out .exit)) r ⌝ }
-{
-    format::put_number(out, to, key.len() as u64, 2);
-    format::put(out, to + 2, key);
-    to + 2 + key.len()
-}
-
-fn put_bound(k: Kind, key: &[u8], out: &mut [u8], to: usize) -> usize
-    requires { ⌜ to + length (writeBound (boundOf k (now key))) ≤ length (now out) ⌝ }
-    ensures { λ r. ⌜ Put (now (out .entry)) to (writeBound (boundOf k (now (key .entry)))) (now (out .exit)) r ⌝ }
-{
-    match k {
-        Kind::Unbounded => to,
-        Kind::Included => put_key(key, out, to),
-        Kind::Excluded => put_key(key, out, to),
-    }
-}
-
 // The flag of a visible range, and the range.
-fn put_range(ks: Kind, s: &[u8], ke: Kind, e: &[u8], out: &mut [u8], to: usize) -> usize
+fn put_flagged(ks: Kind, s: &[u8], ke: Kind, e: &[u8], out: &mut [u8], to: usize) -> usize
     requires { ⌜ to + length (128 ∷ writeRange (rangeOf ks (now s) ke (now e))) ≤ length (now out) ⌝ }
     ensures { λ r. ⌜ Put (now (out .entry)) to (128 ∷ writeRange (rangeOf ks (now (s .entry)) ke (now (e .entry)))) (now (out .exit)) r ⌝ }
 {
-    let head = format::head_byte(ks, ke);
     format::put_byte(out, to, 128);
-    format::put_byte(out, to + 1, head);
-    let past = put_bound(ks, s, out, to + 2);
-    put_bound(ke, e, out, past)
+    range_write::put_range(ks, s, ke, e, out, to + 1)
 }
 
 // The flag and the range of a row, its bounds out of the image (first) or out of the job (second).
@@ -100,7 +76,7 @@ fn put_visible<'a>(
     let ke = y.kind;
     let s = slice_of(start, image, job);
     let e = slice_of(end, image, job);
-    put_range(ks, key_of(s, x), ke, key_of(e, y), out, to)
+    put_flagged(ks, key_of(s, x), ke, key_of(e, y), out, to)
 }
 
 // An output of the job under the id of its table.

@@ -17,8 +17,8 @@ key-of-requires c κs = search (needs, visible-exits)
 key-of-requires-2 : tie.Need-key-of-requires-2
 key-of-requires-2 c κs = search (needs, visible-exits)
 
-put-range-requires : tie.Need-put-range-requires
-put-range-requires c κs = search (needs, visible-exits)
+put-flagged-requires : tie.Need-put-flagged-requires
+put-flagged-requires c κs = search (needs, visible-exits)
 
 same-length : tie.Need-same-length
 same-length c = search (needs, visible-exits)
@@ -34,6 +34,6 @@ put-visible-spec =
     slice-of-requires-2
     key-of-requires
     key-of-requires-2
-    put-range-requires
+    put-flagged-requires
     same-length
     returns)

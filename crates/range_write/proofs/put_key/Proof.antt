@@ -1,9 +1,9 @@
--- `commit_write::views::put_key` meets its contract.
+-- `range_write::put_key` meets its contract.
 -- Assumes nothing.
-use Rattle.commit_write.proofs.ViewExits.{key-exits}
+use Rattle.range_write.proofs.RangeExits.{key-exits}
 use borrow.Author.Needs.{needs}
-use Rattle.commit_write.proofs.views.put_key.Statement.{statement}
-use Rattle.commit_write.proofs.views.put_key.Tie as tie
+use Rattle.range_write.proofs.put_key.Statement.{statement}
+use Rattle.range_write.proofs.put_key.Tie as tie
 
 put-number-requires : tie.Need-put-number-requires
 put-number-requires c κs = search (needs, key-exits)

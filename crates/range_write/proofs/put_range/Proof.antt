@@ -1,21 +1,15 @@
--- `commit_write::views::put_range` meets its contract.
+-- `range_write::put_range` meets its contract.
 -- Assumes nothing.
-use Rattle.commit_write.proofs.ViewExits.{range-exits}
+use Rattle.range_write.proofs.RangeExits.{range-exits}
 use borrow.Author.Needs.{needs}
-use Rattle.commit_write.proofs.views.put_range.Statement.{statement}
-use Rattle.commit_write.proofs.views.put_range.Tie as tie
+use Rattle.range_write.proofs.put_range.Statement.{statement}
+use Rattle.range_write.proofs.put_range.Tie as tie
 
 head-byte-requires : tie.Need-head-byte-requires
 head-byte-requires c κs = search (needs, range-exits)
 
 put-byte-requires : tie.Need-put-byte-requires
 put-byte-requires c κs = search (needs, range-exits)
-
-add-put-byte : tie.Need-add-put-byte
-add-put-byte c = search (needs, range-exits)
-
-put-byte-requires-2 : tie.Need-put-byte-requires-2
-put-byte-requires-2 c κs = search (needs, range-exits)
 
 add-put-bound : tie.Need-add-put-bound
 add-put-bound c = search (needs, range-exits)
@@ -38,8 +32,6 @@ put-range-spec =
     (tie.spec
     head-byte-requires
     put-byte-requires
-    add-put-byte
-    put-byte-requires-2
     add-put-bound
     put-bound-requires
     put-bound-requires-2

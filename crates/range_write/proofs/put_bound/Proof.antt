@@ -1,9 +1,9 @@
--- `commit_write::views::put_bound` meets its contract.
+-- `range_write::put_bound` meets its contract.
 -- Assumes nothing.
-use Rattle.commit_write.proofs.ViewExits.{bound-exits}
+use Rattle.range_write.proofs.RangeExits.{bound-exits}
 use borrow.Author.Needs.{needs}
-use Rattle.commit_write.proofs.views.put_bound.Statement.{statement}
-use Rattle.commit_write.proofs.views.put_bound.Tie as tie
+use Rattle.range_write.proofs.put_bound.Statement.{statement}
+use Rattle.range_write.proofs.put_bound.Tie as tie
 
 enum-told : tie.Need-enum-told
 enum-told c = search (needs, bound-exits)

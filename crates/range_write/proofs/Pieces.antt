@@ -6,7 +6,7 @@ use mathlib.Core.Path.{_≡_, sym, ap, _∙_}
 use mathlib.Core.List.{List, [], _++_}
 use lib.ListN.{length, length-append}
 use Rattle.base.specs.Splice.{splice, splice-none, length-splice, splice-splice}
-use Rattle.commit_write.specs.Put.{Put}
+use Rattle.range_write.specs.Put.{Put}
 
 -- ---- one piece
 pub put-length : {d : List ℕ} {to : ℕ} {x e : List ℕ} {past : ℕ} → Put d to x e past → to + length x ≤ length d → length e ≡ length d
