@@ -1,0 +1,3 @@
+pub mod ProgressCalls
+pub mod ProgressLaws
+pub mod ProgressExamples

@@ -1,0 +1,1 @@
+// `from_compaction` of incremental_progress.rs: what of a job is durable.
