@@ -2,7 +2,7 @@
 -- Assumes nothing.
 use Prim.Native.Nat.{ℕ, _^_}
 use mathlib.Core.Path.{refl}
-use mathlib.Core.List.{List, [], _∷_, _++_}
+use mathlib.Core.List.{List, [], _∷_, _++_, flatMap}
 use Rattle.key.specs.Order.{Key, cmpKey, cmpNumber}
 use Rattle.key.specs.Word.{digits}
 use Rattle.comparable_range.specs.Cut.{cmpCut, cutAtMost}
@@ -40,7 +40,7 @@ abbrev tooManySources : List ℕ
 tooManySources = zeros 4 ++ (65 ∷ [])
 
 pub progressing : Reached (λ (l : List ℕ). fromCompactionOutcome l 0) fromCompactionStops
-unfolding cmpCut cutAtMost cmpNumber cmpKey digits cmpBound boundsPass readNumber writeNumber readBytes readKey writeKey headOf readBound writeBound readRange writeRange whole readIf writeIf readMany writeMany flagOf countOf outputsOf table part job plan all keysInOrder has sizePasses jobChecks destinationIsSource plannedFrom plannedInOrder outputsFrom outputsInside outputsInOrder lastWritten isKey upToKey durable intervals fromCompaction progressed progressMade fromCompactionOutcome
+unfolding cmpCut cutAtMost cmpNumber cmpKey digits cmpBound boundsPass readNumber writeNumber readBytes readKey writeKey headOf readBound writeBound readRange writeRange whole readIf writeIf readMany writeMany flagOf countOf outputsOf table part job plan all keysInOrder has sizePasses jobChecks destinationIsSource plannedFrom plannedInOrder outputsFrom outputsInside outputsInOrder lastWritten isKey upToKey durable intervals fromCompaction progressed progressMade fromCompactionOutcome flatMap
 progressing =
     reached [] refl
     (reached (headed 1) refl
