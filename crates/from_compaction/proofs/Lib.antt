@@ -1,3 +1,5 @@
 pub mod Progress
 pub mod Answered
 pub mod Examples
+pub mod RangeExits
+pub mod CallExits

@@ -1,3 +1,4 @@
 pub mod ProgressCalls
+pub mod Ranges
 pub mod ProgressLaws
 pub mod ProgressExamples
