@@ -12,9 +12,9 @@ pub extern "C" fn bilqarush_from_compaction(job: &[u8], out: &mut [u8], written:
 }
 
 #[no_mangle]
-pub extern "C" fn bilqarush_subtract_from(
-    interval: &[u8],
-    range: &[u8],
+pub extern "C" fn bilqarush_subtract_from<'a>(
+    interval: &'a [u8],
+    range: &'a [u8],
     out: &mut [u8],
     written: &mut usize,
 ) -> u8
