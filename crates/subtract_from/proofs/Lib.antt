@@ -1,0 +1,3 @@
+pub mod PartExits
+pub mod PutExits
+pub mod CallExits

@@ -1,1 +1,2 @@
 pub mod SubtractCalls
+pub mod Found
