@@ -33,12 +33,13 @@ use Rattle.manifest.specs.Checks.{Checks, checked, jobChecks}
 use Rattle.manifest.proofs.Given.{whole-read}
 use Rattle.incremental_progress.specs.Intervals.{Interval, listed, startBound, endBound, toRange}
 use Rattle.incremental_progress.specs.Parts.{keyOf, plannedInterval, lastWritten, isKey, upToKey, durable, intervals}
-use Rattle.incremental_progress.specs.Checks.{destinationIsSource, plannedInOrder, outputsInOrder}
+use Rattle.incremental_progress.specs.Checks.{destinationIsSource}
 use Rattle.incremental_progress.specs.Laws.{JobPasses}
 use Rattle.incremental_progress.proofs.Outcomes.{answered, tested}
 use Rattle.incremental_progress.proofs.Ceilings.{IntervalWithin, intervals-within}
 use Rattle.from_compaction.specs.ProgressCalls.{fromCompaction, progressed, progressMade, fromCompactionOutcome}
 use Rattle.from_compaction.specs.ProgressLaws.{ProgressAnswered, EachProgressAnswered}
+use Rattle.from_compaction.proofs.LateChecks.{late-passed}
 use Rattle.from_compaction.proofs.Progress.{partRanges, rangesOf, one-part-more, at-most-one-a-part}
 
 -- ---- the checks that passed
@@ -63,13 +64,12 @@ made l p e =
     let j = a .value in
     let b = passed j _ p (a .second) in
     let c8 = tested 8 (destinationIsSource j) _ p (b .1 .1) in
-    let c10 = tested 10 (plannedInOrder j) _ p (c8 .1) in
-    let c11 = tested 11 (outputsInOrder j) _ p (c10 .1) in
+    let c = late-passed j p (c8 .0) (b .1 .1) in
     record {
       progress = j;
       progress-is = a .first;
-      passes = record { ranges = b .0; tables = b .1 .0; planned = c10 .0; outputs = c11 .0 };
-      are = cc (c11 .1);
+      passes = record { ranges = b .0; tables = b .1 .0; planned = c .planned; outputs = c .outputs };
+      are = c .are;
     }
 
 -- ---- within the ceilings

@@ -1,59 +1,36 @@
 -- The exits of `from_compaction`.
 -- Assumes nothing.
 use Prim.Native.Nat.{ℕ, _+_, _*_, _≤_, _<_}
-use native.Mathlib.Omega.{arith}
-use mathlib.Core.Path.{_≡_, refl, sym, ap, subst, _∙_}
+use mathlib.Core.Path.{_≡_, sym, ap, subst, _∙_}
 use mathlib.Core.Bool.{Bool, true, false}
 use mathlib.Core.List.{List}
 use lib.ListN.{length, drop}
 use borrow.Author.Tests.{le-leb, lt-leb}
-use Rattle.base.specs.Pick.{pick}
-use Rattle.base.specs.Outcome.{Outcome, answer, check, andThen, lent, writtenTo, reported}
+use Rattle.base.specs.Outcome.{Outcome, answer, andThen, lent, writtenTo, reported}
 use Rattle.base.specs.Outcome as outcome
 use Rattle.base.specs.declared.Written.{Written}
 use Rattle.base.specs.declared.Written.the-variants.{Stop}
-use Rattle.comparable_range.specs.Cut.{below}
 use Rattle.format.specs.Whole.{whole, ended}
-use Rattle.records.specs.Values.{Job, Plan}
+use Rattle.records.specs.Values.{Plan}
 use Rattle.records.specs.Layouts.{job, plan}
 use Rattle.records.specs.Spans.{idsIn}
-use Rattle.manifest.specs.Checks.{all, has, checked, jobChecks}
-use Rattle.manifest.specs.Faults.{faultOf}
+use Rattle.manifest.specs.Checks.{has, checked, jobChecks}
 use Rattle.manifest.proofs.Steps.{fault-stops, fault-passes}
-use Rattle.incremental_progress.specs.Checks.{destinationIsSource, plannedFrom, plannedInOrder, outputsInside, outputsInOrder}
+use Rattle.incremental_progress.specs.Checks.{destinationIsSource}
 use Rattle.commit_durable.specs.Tables.{jobOf, PartsHold}
-use Rattle.commit_durable.specs.Faults.{partsFault}
 use Rattle.commit_durable.specs.Answers.{JobPassed, JobAnswer, JobTold}
 use Rattle.commit_durable.specs.declared.jobs.JobHead.{JobHead}
 use Rattle.commit_durable.specs.declared.jobs.JobJudged.{JobJudged}
 use Rattle.commit_durable.specs.declared.jobs.JobJudged.the-variants.{At as JobAt, Stop as JobStop}
-use Rattle.from_compaction.specs.ProgressCalls.{fromCompaction, progressed, progressMade, fromCompactionOutcome}
+use Rattle.from_compaction.specs.ProgressCalls.{progressed, progressMade, fromCompactionOutcome}
 use Rattle.from_compaction.specs.Ranges.{jobRanges}
+use Rattle.from_compaction.proofs.LateChecks.{late-stops, late-passes}
 
 reports : {o : Outcome (List ℕ)} {k : ℕ} → o ≡ outcome.stop k → Stop k ≡ reported o
 reports e = rw e
 
 leaves : (d : List ℕ) {o : Outcome (List ℕ)} {k : ℕ} → o ≡ outcome.stop k → d ≡ lent d o
 leaves d e = rw e
-
--- 10 and 11, as two tests
-two-stop : {A : Type 0} (o : Outcome A) (a b : Bool) → pick a (pick b 12 11) 10 < 12 → check 10 a (check 11 b o) ≡ outcome.stop (pick a (pick b 12 11) 10)
-two-stop o true true h = absurd (omega arith)
-two-stop o true false h = refl
-two-stop o false b h = refl
-
-two-pass : {A : Type 0} (o : Outcome A) (a b : Bool) → 12 ≤ pick a (pick b 12 11) 10 → check 10 a (check 11 b o) ≡ o
-two-pass o true true h = refl
-two-pass o true false h = absurd (omega arith)
-two-pass o false b h = absurd (omega arith)
-
-late-stops : (j : Job) → destinationIsSource j ≡ true → partsFault (j .parts) < 12 → progressed j ≡ outcome.stop (partsFault (j .parts))
-unfolding progressed partsFault plannedInOrder outputsInOrder
-late-stops j e h = rw e (two-stop (answer (fromCompaction j)) (plannedFrom below (j .parts)) (all outputsInside (j .parts)) h)
-
-late-passes : (j : Job) → destinationIsSource j ≡ true → 12 ≤ partsFault (j .parts) → progressed j ≡ answer (fromCompaction j)
-unfolding progressed partsFault plannedInOrder outputsInOrder
-late-passes j e h = rw e (two-pass (answer (fromCompaction j)) (plannedFrom below (j .parts)) (all outputsInside (j .parts)) h)
 
 module _ (t out : List ℕ) where
   stopped : {k : ℕ} → whole (job .read) t ≡ outcome.stop k → fromCompactionOutcome t (length out) ≡ outcome.stop k

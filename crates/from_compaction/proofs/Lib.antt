@@ -1,3 +1,4 @@
+pub mod LateChecks
 pub mod Progress
 pub mod Answered
 pub mod Examples
