@@ -209,7 +209,7 @@ fn plans() {
 }
 
 // What an interval leaves of a range.
-fn print_left(name: &[u8], interval: &[u8], range: &[u8]) {
+fn print_left<'a>(name: &[u8], interval: &'a [u8], range: &'a [u8]) {
     let mut out = [0u8; 16];
     let w = bilqarush::subtract_from(interval, range, &mut out);
     print_range(name, &out, w);

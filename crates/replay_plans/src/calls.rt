@@ -22,14 +22,20 @@ fn progressing(job: &[u8], answer: &[u8], out: &mut [u8]) -> bool {
     buffer::written_is(answer, out, w)
 }
 
-fn subtracting(interval: &[u8], range: &[u8], answer: &[u8], out: &mut [u8]) -> bool {
+fn subtracting<'a>(interval: &'a [u8], range: &'a [u8], answer: &[u8], out: &mut [u8]) -> bool {
     let w = bilqarush::subtract_from(interval, range, out);
     buffer::written_is(answer, out, w)
 }
 
 // Whether a record's call answers what it recorded. An unknown call never does. The lent buffer is filled first, so that a byte
 // which is not to be written is seen if it is.
-pub fn agrees(f: Fields, first: &[u8], second: &[u8], answer: &[u8], out: &mut [u8]) -> bool {
+pub fn agrees<'a>(
+    f: Fields,
+    first: &'a [u8],
+    second: &'a [u8],
+    answer: &[u8],
+    out: &mut [u8],
+) -> bool {
     buffer::fill(out);
     let call = f.call;
     match call {

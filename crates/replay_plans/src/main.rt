@@ -93,11 +93,11 @@ fn repeat_turn(f: Fields, number: u8, buffer: &mut [u8], held: usize) -> Turn {
 }
 
 // A call, into a buffer of just the room that follows the head.
-fn call_turn(
+fn call_turn<'a>(
     f: Fields,
     held: Lengths,
-    first: &[u8],
-    second: &[u8],
+    first: &'a [u8],
+    second: &'a [u8],
     answer: &[u8],
     out: &mut [u8],
 ) -> Turn {
