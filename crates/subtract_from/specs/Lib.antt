@@ -1,2 +1,4 @@
 pub mod SubtractCalls
 pub mod Found
+pub mod SubtractLaws
+pub mod SubtractExamples
