@@ -10,10 +10,9 @@ use mathlib.Core.List.{List, [], _∷_, _++_, map, flatMap, append-nil}
 use lib.ListN.{length, length-append}
 use lib.Dec.{leb}
 use borrow.Author.Tests.{le-leb}
-use Rattle.base.specs.Pick.{pick}
-use Rattle.base.specs.Bytes.{Bytes}
-use Rattle.base.specs.Lists.{All, All-map, All-mapped}
-use Rattle.base.specs.Outcome.{Outcome, answer, check, andThen, writtenTo}
+use Rattle.base.specs.Pick.{pick, and-second}
+use Rattle.base.specs.Lists.{All-map, All-mapped}
+use Rattle.base.specs.Outcome.{Outcome, answer}
 use Rattle.key.specs.Order.{Key}
 use Rattle.comparable_range.specs.Range.{Bound, unbounded, included, excluded, Range}
 use Rattle.format.specs.Key.{writeKey}
@@ -27,20 +26,20 @@ use Rattle.records.specs.Values.{Table, Part, Job, Plan}
 use Rattle.records.specs.Layouts.{table, part, job, plan}
 use Rattle.records.specs.Laws.{Lawful}
 use Rattle.records.proofs.RecordLayouts.{job-layout, plan-layout}
-use Rattle.records.proofs.Within.{If, PartWithin, many-of-all}
+use Rattle.records.proofs.Within.{If, many-of-all}
 use Rattle.records.proofs.Within as within
-use Rattle.manifest.specs.Checks.{Checks, checked, jobChecks}
+use Rattle.manifest.specs.Checks.{checked, imageChecks, jobChecks}
 use Rattle.manifest.proofs.Given.{whole-read}
 use Rattle.incremental_progress.specs.Intervals.{Interval, listed, startBound, endBound, toRange}
 use Rattle.incremental_progress.specs.Parts.{keyOf, plannedInterval, lastWritten, isKey, upToKey, durable, intervals}
 use Rattle.incremental_progress.specs.Checks.{destinationIsSource}
 use Rattle.incremental_progress.specs.Laws.{JobPasses}
-use Rattle.incremental_progress.proofs.Outcomes.{answered, tested}
+use Rattle.incremental_progress.proofs.Outcomes.{answered, tested, same-answer, accepted-commit}
 use Rattle.incremental_progress.proofs.Ceilings.{IntervalWithin, intervals-within}
 use Rattle.from_compaction.specs.ProgressCalls.{fromCompaction, progressed, progressMade, fromCompactionOutcome}
-use Rattle.from_compaction.specs.ProgressLaws.{ProgressAnswered, EachProgressAnswered}
+use Rattle.from_compaction.specs.ProgressLaws.{EachProgressAnswered, CommittedRecordsAreAnswered}
 use Rattle.from_compaction.proofs.LateChecks.{late-passed}
-use Rattle.from_compaction.proofs.Progress.{partRanges, rangesOf, one-part-more, at-most-one-a-part}
+use Rattle.from_compaction.proofs.Progress.{partRanges, rangesOf, one-part-more, at-most-one-a-part, intervals-answered-ascend, intervals-answered-pass, durable-keys-are-held-once, completed-parts-answer-their-plan, last-written-key-is-in-none}
 
 -- ---- the checks that passed
 passed : (j : Job) (o : Outcome Plan) (p : Plan) → checked (jobChecks j) o ≡ answer p → (jobChecks j .ranges ≡ true) × ((jobChecks j .tables ≡ true) × (o ≡ answer p))
@@ -213,6 +212,27 @@ each-progress-answered l room b bs e =
       are = refl;
       is = is;
       reads-back = ap (whole (plan .read)) is ∙ reads-whole plan-layout (fromCompaction j) (plan-within j (w .within)) (omega (arith, r .small));
-      most = few-ranges j (w .within);
       no-longer = omega (arith, ap length is);
+      most = few-ranges j (w .within);
+      one-a-part = at-most-one-a-part j;
+      pass = intervals-answered-pass j (m .passes);
+      in-order = intervals-answered-ascend j (m .passes);
+      held-once = durable-keys-are-held-once j (m .passes);
+      last-key-in-none = last-written-key-is-in-none j (m .passes);
+      completed = completed-parts-answer-their-plan j (m .passes);
     }
+
+-- ---- a record that a commit accepts
+pub committed-records-are-answered : CommittedRecordsAreAnswered
+unfolding progressMade progressed
+committed-records-are-answered given record′ ids room new progress e r =
+    let a = accepted-commit given record′ ids room new e in
+    let p = a .made .passes in
+    let i = imageChecks (a .before) in
+    let c = jobChecks (a .progress) in
+    let x : a .progress ≡ progress = same-answer (a .progress-is) r in
+    let ranges : c .ranges ≡ true = and-second (i .ranges) (c .ranges) (p .first .ranges) in
+    let tables : c .tables ≡ true = and-second (i .tables) (c .tables) (p .first .tables) in
+    let order : c .order ≡ true = and-second (i .order) (c .order) (p .first .order) in
+    let sizes : c .sizes ≡ true = and-second (i .sizes) (c .sizes) (p .first .sizes) in
+    rw (r, ← x, ranges, tables, order, sizes, p .source, p .planned, p .outputs)

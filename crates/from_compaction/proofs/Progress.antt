@@ -10,24 +10,24 @@ use lib.ListN.{length, length-append}
 use Rattle.base.specs.Pick.{pick}
 use Rattle.base.specs.Lists.{All, All-map, All-append, Pairwise, Pairwise-append, map-append}
 use Rattle.key.specs.Order.{Key}
-use Rattle.comparable_range.specs.Range.{Bound, unbounded, included, excluded, Range, nonEmpty, holds}
+use Rattle.comparable_range.specs.Range.{Bound, unbounded, included, excluded, Range, holds}
 use Rattle.comparable_range.specs.Cut.{Cut, below, before, after, cutAtMost, _≼_, _≺_, startCut, endCut}
 use Rattle.comparable_range.proofs.Cut.{≼-trans, ≼-refl, ≺-≼, ≼-not-≺, before-≺-after}
 use Rattle.comparable_range.proofs.ByCuts.{held-parts, ≺-passes}
 use Rattle.comparable_range.proofs.Keyless.{not-held}
-use Rattle.records.specs.Values.{Table, Part, Job, Plan}
+use Rattle.records.specs.Values.{Table, Part, Plan}
 use Rattle.manifest.specs.Checks.{isExcluded}
 use Rattle.incremental_progress.specs.Intervals.{Interval, listed, startBound, endBound, toRange, anyHolds, bit, times}
-use Rattle.incremental_progress.specs.Parts.{keyOf, plannedInterval, lastWritten, isKey, upToKey, durable, intervals}
+use Rattle.incremental_progress.specs.Parts.{keyOf, plannedInterval, lastWritten, upToKey, durable, intervals}
 use Rattle.incremental_progress.specs.Checks.{isIncluded, plannedFrom, plannedInOrder}
-use Rattle.incremental_progress.specs.Laws.{JobPasses}
 use Rattle.incremental_progress.specs.DemandLaws.{partAt}
 use Rattle.incremental_progress.specs.Members.{In, here, further}
 use Rattle.incremental_progress.proofs.Span.{both-true}
 use Rattle.incremental_progress.proofs.Checks.{job-parts}
+use Rattle.incremental_progress.proofs.ProgressLaws.{later-holds-more}
 use Rattle.incremental_progress.proofs.Job.{fromCut, toCut, Ascending, written, none-some, Planned, no-parts, with-part, Status, finished, nothing, ongoing, status}
 use Rattle.from_compaction.specs.ProgressCalls.{fromCompaction}
-use Rattle.from_compaction.specs.ProgressLaws.{DurableKeysAreHeldOnce, LastWrittenKeyIsInNone, AtMostOneAPart, IntervalsAnsweredAscend, IntervalsAnsweredPass, CompletedPartsAnswerTheirPlan, UnfinishedPartsAnswerUpToTheirLastKey}
+use Rattle.from_compaction.specs.ProgressLaws.{DurableKeysAreHeldOnce, LastWrittenKeyIsInNone, LaterAnswersHoldMore, AtMostOneAPart, IntervalsAnsweredAscend, IntervalsAnsweredPass, CompletedPartsAnswerTheirPlan, UnfinishedPartsAnswerUpToTheirLastKey}
 
 -- the ranges of one part, and of some
 abbrev pub partRanges : Part → Plan
@@ -131,6 +131,15 @@ held-once x (iv ∷ ivs) p = go (holds (toRange iv) x) refl (held-once x ivs (p 
 pub durable-keys-are-held-once : DurableKeysAreHeldOnce
 unfolding fromCompaction
 durable-keys-are-held-once j c x = held-once x (intervals (j .parts)) (lying (job-parts j c) .apart)
+
+pub later-answers-hold-more : LaterAnswersHoldMore
+later-answers-hold-more i j l a b x h =
+    let e : anyHolds (intervals (i .parts)) x ≡ true = one (anyHolds (intervals (i .parts)) x) (sym (durable-keys-are-held-once i a x) ∙ h) in
+    durable-keys-are-held-once j b x ∙ ap bit (later-holds-more i j l a b x e)
+  where
+    one : (t : Bool) → bit t ≡ 1 → t ≡ true
+    one true e = refl
+    one false e = absurd (omega arith)
 
 -- ---- what each part answers
 -- the bounds of a planned range that passes check 10

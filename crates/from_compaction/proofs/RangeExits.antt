@@ -229,24 +229,24 @@ module _ {s : List ℕ} {m : Measure} (p : Measured s m) where
     pub write-count-room : 0 + 1 ≤ length d
     write-count-room = omega arith
 
-    module _ {e : List ℕ} (q : e ≡ splice d 0 (writeNumber 1 (m .count))) where
-      counted : Put d 0 (writeNumber 1 (m .count)) e 1
-      counted = record { is = q; past-is = omega (arith, number-length 1 (m .count)) }
+    module _ (v : ℕ) {e : List ℕ} (q : e ≡ splice d 0 (writeNumber 1 v)) where
+      counted : Put d 0 (writeNumber 1 v) e 1
+      counted = record { is = q; past-is = omega (arith, number-length 1 v) }
 
-      both-room : 0 + length (writeNumber 1 (m .count) ++ rangesBytes (jobRanges s)) ≤ length d
-      both-room = omega (arith, ap length plan-is, write-size)
+      both-room : 0 + length (writeNumber 1 v ++ rangesBytes (jobRanges s)) ≤ length d
+      both-room = omega (arith, length-append (writeNumber 1 v) (rangesBytes (jobRanges s)), number-length 1 v, p .bytes)
 
       pub write-room : 1 + length (rangesBytes (jobRanges s)) ≤ length e
-      write-room = second-room d 0 (writeNumber 1 (m .count)) (rangesBytes (jobRanges s)) both-room counted
+      write-room = second-room d 0 (writeNumber 1 v) (rangesBytes (jobRanges s)) both-room counted
 
       module _ {f : List ℕ} {past : ℕ} (y : Put e 1 (rangesBytes (jobRanges s)) f past) where
-        all-put : Put d 0 (plan .write (jobRanges s)) f past
-        all-put = put-same (both-put d 0 (writeNumber 1 (m .count)) (rangesBytes (jobRanges s)) both-room counted y) (sym plan-is)
-
-        pub write-all : f ≡ over (plan .write (jobRanges s)) d
-        write-all = all-put .is ∙ rw zero-add
+        all-put : Put d 0 (writeNumber 1 v ++ rangesBytes (jobRanges s)) f past
+        all-put = both-put d 0 (writeNumber 1 v) (rangesBytes (jobRanges s)) both-room counted y
 
         pub write-same : length f ≡ length d
-        write-same = put-length all-put (omega (arith, write-size))
+        write-same = put-length all-put both-room
+
+        pub write-all : v ≡ m .count → f ≡ over (plan .write (jobRanges s)) d
+        write-all c = put-same all-put (ap (λ n. writeNumber 1 n ++ rangesBytes (jobRanges s)) c ∙ sym plan-is) .is ∙ rw zero-add
 
 pub ruleset write-exits = (write-fits, write-size, write-count-room, write-room, write-all, write-same)

@@ -1,5 +1,4 @@
 -- Durable intervals, computed. Letters are ASCII; square bracket included, round bracket excluded.
-use Prim.Native.Nat.{ℕ}
 use mathlib.Core.Path.{_≡_}
 use mathlib.Core.Bool.{Bool, true, false}
 use mathlib.Core.Option.{some}
@@ -7,7 +6,7 @@ use mathlib.Core.List.{List, [], _∷_}
 use Rattle.base.specs.Outcome.{stop, answer}
 use Rattle.key.specs.Order.{Key}
 use Rattle.comparable_range.specs.Range.{Bound, unbounded, included, excluded, Range}
-use Rattle.records.specs.Values.{Table, Part, Job, Plan}
+use Rattle.records.specs.Values.{Table, Part, Job}
 use Rattle.records.specs.Layouts.{job}
 use Rattle.incremental_progress.specs.Example.{firstRecord, thirdRecord, wrongRecord}
 use Rattle.from_compaction.specs.ProgressCalls.{fromCompaction, fromCompactionOutcome}

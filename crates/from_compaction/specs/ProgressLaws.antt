@@ -9,18 +9,20 @@ use Rattle.base.specs.Bytes.{Bytes}
 use Rattle.base.specs.Lists.{All, Pairwise}
 use Rattle.base.specs.Outcome.{answer}
 use Rattle.key.specs.Order.{Key}
-use Rattle.comparable_range.specs.Range.{excluded, Range, nonEmpty, holds}
+use Rattle.comparable_range.specs.Range.{excluded, nonEmpty, holds}
 use Rattle.comparable_range.specs.Cut.{_≼_, startCut, endCut}
 use Rattle.format.specs.Whole.{whole}
 use Rattle.records.specs.Values.{Part, Job, Plan}
 use Rattle.records.specs.Layouts.{job, plan}
 use Rattle.incremental_progress.specs.Intervals.{anyHolds, bit, times}
 use Rattle.incremental_progress.specs.Parts.{keyOf, lastWritten, isKey, intervals}
+use Rattle.incremental_progress.specs.Jobs.{LaterJob}
+use Rattle.incremental_progress.specs.Commit.{commitOutcome}
 use Rattle.incremental_progress.specs.Laws.{JobPasses}
 use Rattle.incremental_progress.specs.DemandLaws.{partAt}
 use Rattle.incremental_progress.specs.Corollaries.{Unfinished}
 use Rattle.incremental_progress.specs.Members.{In}
-use Rattle.from_compaction.specs.ProgressCalls.{fromCompaction, fromCompactionOutcome}
+use Rattle.from_compaction.specs.ProgressCalls.{fromCompaction, progressMade, fromCompactionOutcome}
 
 -- ---- which keys the ranges hold
 -- a key that lies in a durable interval is held by one of them, and any other by none
@@ -60,8 +62,22 @@ UnfinishedPartsAnswerUpToTheirLastKey =
     → isKey (keyOf (p .planned .start)) b ≡ false
     → In (record { start = p .planned .start; end = excluded b }) (fromCompaction j)
 
+-- ---- records one after another, and committed
+-- a key that a range of a record's answer holds is held by one of each later record's
+abbrev pub LaterAnswersHoldMore : Type 0
+LaterAnswersHoldMore =
+    (i j : Job) → LaterJob i j → JobPasses i → JobPasses j → (x : Key) → times x (fromCompaction i) ≡ 1 → times x (fromCompaction j) ≡ 1
+
+-- A record that a commit accepts is answered: the ranges are those that the commit made the destination's.
+abbrev pub CommittedRecordsAreAnswered : Type 0
+CommittedRecordsAreAnswered =
+    (given record′ ids : List ℕ) (room : ℕ) (new : List ℕ) (progress : Job)
+    → commitOutcome given record′ ids room ≡ answer new
+    → whole (job .read) record′ ≡ answer progress
+    → progressMade record′ ≡ answer (fromCompaction progress)
+
 -- ---- of what the call answers, on any bytes
--- The bytes are the layout of a plan and are read back as that plan, the job's, of which all of the above holds.
+-- The bytes are the layout of a plan and are read back as that plan, the job's, and all of the above holds of it.
 pub record ProgressAnswered (l b : List ℕ) : Type 0 where
   pub progress : Job
   pub progress-is : whole (job .read) l ≡ answer progress
@@ -70,8 +86,14 @@ pub record ProgressAnswered (l b : List ℕ) : Type 0 where
   pub are : ranges ≡ fromCompaction progress
   pub is : b ≡ plan .write ranges
   pub reads-back : whole (plan .read) b ≡ answer ranges
-  pub most : length ranges ≤ 64
   pub no-longer : length b ≤ length l
+  pub most : length ranges ≤ 64
+  pub one-a-part : length ranges ≤ length (progress .parts)
+  pub pass : All (λ r. nonEmpty r ≡ true) ranges
+  pub in-order : Pairwise (λ r q. endCut (r .end) ≼ startCut (q .start)) ranges
+  pub held-once : (x : Key) → times x ranges ≡ bit (anyHolds (intervals (progress .parts)) x)
+  pub last-key-in-none : (b : Key) → Unfinished progress b → All (λ r. holds r b ≡ false) ranges
+  pub completed : (n : ℕ) (p : Part) → partAt n (progress .parts) ≡ some p → p .completed ≡ true → In (p .planned) ranges
 
 abbrev pub EachProgressAnswered : Type 0
 EachProgressAnswered = (l : List ℕ) (room : ℕ) (b : List ℕ) → Bytes l → fromCompactionOutcome l room ≡ answer b → ProgressAnswered l b

@@ -1,12 +1,10 @@
+-- `from_compaction::ranges::measured` meets its contract.
+-- Assumes nothing.
 use Prim.Native.Nat.{_-_}
 use Rattle.from_compaction.proofs.RangeExits.{measure-exits, Measuring}
 use borrow.Author.Needs.{needs}
 use Rattle.from_compaction.proofs.ranges.measured.Statement.{statement}
 use Rattle.from_compaction.proofs.ranges.measured.Tie as tie
-use Rattle.from_compaction.proofs.ranges.measured.Reads as reads
-use Rattle.from_compaction.proofs.ranges.measured.Lts as lts
-use Rattle.commit_durable.proofs.part_at.Reads as part-at-reads
-use Rattle.from_compaction.proofs.ranges.part_size.Reads as part-size-reads
 
 abbrev Inv-loop : tie.InvT-loop
 Inv-loop job parts n count₀ bytes₀ k₀ count bytes k = Measuring job n count bytes k
@@ -14,47 +12,36 @@ Inv-loop job parts n count₀ bytes₀ k₀ count bytes k = Measuring job n coun
 abbrev μ-loop : tie.MeasureT-loop
 μ-loop job parts n count₀ bytes₀ k₀ count bytes k = n - k
 
--- src/ranges.rt:53:5
 loop-holds : tie.Need-loop-holds Inv-loop μ-loop
 loop-holds c = search (needs, measure-exits)
 
--- src/ranges.rt:54:13
 part-at-requires : tie.Need-part-at-requires Inv-loop μ-loop
 part-at-requires c κs = search (needs, measure-exits)
 
--- src/ranges.rt:55:9
 add-k : tie.Need-add-k Inv-loop μ-loop
 add-k c = search (needs, measure-exits)
 
--- src/ranges.rt:57:13
 add-count : tie.Need-add-count Inv-loop μ-loop
 add-count c = search (needs, measure-exits)
 
--- src/ranges.rt:58:22
 part-size-requires : tie.Need-part-size-requires Inv-loop μ-loop
 part-size-requires c κs = search (needs, measure-exits)
 
--- src/ranges.rt:58:13
 add-bytes : tie.Need-add-bytes Inv-loop μ-loop
 add-bytes c = search (needs, measure-exits)
 
--- src/ranges.rt:53:5
 loop-less : tie.Need-loop-less Inv-loop μ-loop
 loop-less c = search (needs, measure-exits)
 
--- src/ranges.rt:53:5
 loop-again : tie.Need-loop-again Inv-loop μ-loop
 loop-again c = search (needs, measure-exits)
 
--- src/ranges.rt:53:5
 loop-less-2 : tie.Need-loop-less-2 Inv-loop μ-loop
 loop-less-2 c = search (needs, measure-exits)
 
--- src/ranges.rt:53:5
 loop-again-2 : tie.Need-loop-again-2 Inv-loop μ-loop
 loop-again-2 c = search (needs, measure-exits)
 
--- src/ranges.rt:46:1
 returns : tie.Need-returns Inv-loop μ-loop
 returns c = search (needs, measure-exits)
 
