@@ -73,7 +73,7 @@ fn intervals(clock: &Clock, prepared: &Prepared, task: &[u8]) -> Option<Row> {
         call: "from_compaction",
         shape: prepared.name.clone(),
         size: None,
-        counts: format!("{} parts, {outputs} outputs", prepared.job.parts.len()),
+        counts: format!("{outputs} outputs"),
         bytes: task.len(),
         calls: 1,
         sides,
