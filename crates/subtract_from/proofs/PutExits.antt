@@ -1,17 +1,15 @@
 -- The exits of the functions that measure and put the parts of a range.
 -- Assumes nothing.
-use Prim.Native.Nat.{ℕ, _+_, _≤_, _<_, _^_}
+use Prim.Native.Nat.{ℕ, _+_, _≤_}
 use native.Mathlib.Omega.{arith}
-use native.Mathlib.Nat.{zero-add, add-zero}
+use native.Mathlib.Nat.{zero-add}
 use mathlib.Core.Path.{_≡_, refl, sym, ap, _∙_}
-use mathlib.Core.List.{List, [], _∷_, _++_, append-nil}
+use mathlib.Core.List.{List, _++_, append-nil}
 use lib.ListN.{length, take, drop, length-append, length-take, length-drop}
-use mir.Val.{Fits}
-use mir.Syntax.{w64}
 use Rattle.base.specs.Outcome.{over}
 use Rattle.base.specs.Splice.{splice}
 use Rattle.key.specs.Order.{Key}
-use Rattle.comparable_range.specs.Range.{Range, boundOf, rangeOf, of}
+use Rattle.comparable_range.specs.Range.{boundOf, rangeOf, of}
 use Rattle.comparable_range.specs.declared.Kind.{Kind}
 use Rattle.comparable_range.specs.declared.Kind.the-variants.{Unbounded, Included, Excluded}
 use Rattle.comparable_range.specs.declared.Side.{Side}
@@ -19,7 +17,7 @@ use Rattle.comparable_range.specs.declared.Side.the-variants.{First, Second}
 use Rattle.format.specs.Joint as joint
 use Rattle.format.specs.Number.{writeNumber}
 use Rattle.format.specs.Range.{writeRange}
-use Rattle.format.specs.Span.{SuppliedInside, suppliedBound, boundKey, JointInside, jointIn, MetInside}
+use Rattle.format.specs.Span.{SuppliedInside, suppliedBound, boundKey, jointIn, MetInside}
 use Rattle.format.specs.declared.span.Supplied.{Supplied}
 use Rattle.format.specs.declared.span.JointSpan.{JointSpan}
 use Rattle.format.specs.declared.span.Met.{Met}
