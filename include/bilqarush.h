@@ -1,6 +1,6 @@
 /*
- * Bilqarush: ranges of byte keys, images of runs, lookups in them and in indexes, visible sizes, and the plan and the commit
- * of a compaction, after slatedb 0.18.0.
+ * Bilqarush: ranges of byte keys, images of runs, lookups in them and in indexes, visible sizes, and the plan, the progress
+ * and the commit of a compaction, after slatedb 0.18.0.
  *
  * Link libbilqarush_c.a, which `rt staticlib bilqarush_c` writes to target/staticlib, for x86-64 Linux. Of the C library it
  * needs memcpy and memset alone. What each call answers is proved for every input; docs/PROMISES.md names the definitions.
@@ -106,6 +106,8 @@
 #define BILQARUSH_IMAGE_LEN 65536    /* commit */
 #define BILQARUSH_ANCHORS_LEN 65536  /* sample_anchors; index_len is enough too */
 #define BILQARUSH_PLAN_LEN 129341    /* select_boundaries, plan_subcompaction_ranges */
+#define BILQARUSH_DURABLE_LEN 65536  /* from_compaction; job_len is enough too */
+#define BILQARUSH_LEFT_LEN 4107      /* subtract_from */
 
 #ifdef __cplusplus
 extern "C" {
@@ -429,6 +431,26 @@ uint8_t bilqarush_select_boundaries(size_t parts, uint64_t least, const uint8_t 
 uint8_t bilqarush_plan_subcompaction_ranges(size_t parts, const uint8_t *image, size_t image_len,
                                             const uint8_t *indexes, size_t indexes_len, uint8_t *out, size_t out_len,
                                             size_t *written);
+
+/* ---- Progress of a compaction ---- */
+
+/*
+ * The durable intervals of a job's parts, in order, each a range: of a completed part its planned range; of an unfinished one
+ * its planned range up to, without, the last key of its last output, and none if it has no output or that key is its start.
+ * They are what bilqarush_commit takes out of the sources. No ids are drawn.
+ * Writes a plan: a count, 0 to 64, and the ranges.
+ * Stops: the fields of job; 4; 5; 7; 8; 10; 11; 16.
+ */
+uint8_t bilqarush_from_compaction(const uint8_t *job, size_t job_len, uint8_t *out, size_t out_len, size_t *written);
+
+/*
+ * What of a range lies outside an interval, in key order: its keys below the interval's start, and its keys from the
+ * interval's end on. The interval is given as a range; its start is included or unbounded, its end excluded or unbounded.
+ * Writes a plan: a count, 0 to 2, and the ranges.
+ * Stops: the fields of interval, then of range; 4, of either; 10, of the interval; 16.
+ */
+uint8_t bilqarush_subtract_from(const uint8_t *interval, size_t interval_len, const uint8_t *range, size_t range_len,
+                                uint8_t *out, size_t out_len, size_t *written);
 
 #ifdef __cplusplus
 }

@@ -10,6 +10,7 @@ mod keys;
 mod lookups;
 mod ours;
 mod plans;
+mod progress;
 mod ranges;
 mod shapes;
 mod sizes;
@@ -43,7 +44,7 @@ fn main() {
         if cfg!(debug_assertions) { "on" } else { "off" },
     );
     let passes = (0..PASSES).map(|_| measured(&clock));
-    let [mut rows, mut images, commits, lookups, against, sizes, samples, plans] =
+    let [mut rows, mut images, commits, lookups, against, sizes, samples, plans, progress] =
         passes.reduce(least).expect("there is a pass");
 
     table::print("Keys and ranges", &["Rust, keys lent"], &rows);
@@ -59,6 +60,7 @@ fn main() {
     table::print("Visible sizes", &["decode", "call"], &sizes);
     table::print("Samples", &["decode", "call", "encode"], &samples);
     table::print("Plans", &["decode", "call", "encode"], &plans);
+    table::print_divided("Progress", &progress::MORE, &progress::QUOTIENTS, &progress);
     images.extend(commits);
     table::print_by_size(&images, &shapes::SIZES);
     rows.extend(images);
@@ -66,11 +68,12 @@ fn main() {
     rows.extend(sizes);
     rows.extend(samples);
     rows.extend(plans);
+    rows.extend(progress);
     table::print_above(&rows);
 }
 
 /// The rows of each table.
-type Rows = [Vec<Row>; 8];
+type Rows = [Vec<Row>; 9];
 
 fn measured(clock: &Clock) -> Rows {
     [
@@ -82,6 +85,7 @@ fn measured(clock: &Clock) -> Rows {
         sizes::rows(clock),
         plans::samples(clock),
         plans::plans(clock),
+        progress::rows(clock),
     ]
 }
 

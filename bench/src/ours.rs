@@ -131,13 +131,18 @@ macro_rules! writers {
     )*};
 }
 
-writers!(one as_point bilqarush_as_point, from_prefix bilqarush_from_prefix, list bilqarush_list);
+writers!(one
+    as_point bilqarush_as_point,
+    from_prefix bilqarush_from_prefix,
+    list bilqarush_list,
+    from_compaction bilqarush_from_compaction);
 writers!(two
     intersect bilqarush_intersect,
     intersect_start_key bilqarush_intersect_start_key,
     intersect_end_key bilqarush_intersect_end_key,
     union bilqarush_union,
-    from_prefix_and_subrange bilqarush_from_prefix_and_subrange);
+    from_prefix_and_subrange bilqarush_from_prefix_and_subrange,
+    subtract_from bilqarush_subtract_from);
 
 pub fn partition_point(index: &[u8], at_or_below: bool, key: &[u8]) -> Checked<usize> {
     let mut count = 0;

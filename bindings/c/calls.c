@@ -305,6 +305,42 @@ static void plans_of_images(void) {
     CHECK(written == 2 && room[0] == 1 && room[1] == 0);
 }
 
+/* As JOB and unfinished, with an output from b to bb; and a job without sources. */
+#define UNFINISHED "\0\0\0\x07\x01\0\0\0\x07\x01" "\x60\0\x01" "b" "\0\x01" "c" "\0\x01" LONGER
+#define LONGER ID("\x03") SIZES "\x80\0\x01" "b" "\0\x02" "bb"
+#define NO_SOURCE "\0\0\0\x07\0\0"
+
+static void durable_intervals(void) {
+    fill();
+    CHECK(wrote(bilqarush_from_compaction(BYTES(JOB("\0")), out, 1, &written), BYTES("\0")));
+    fill();
+    CHECK(wrote(bilqarush_from_compaction(BYTES(JOB("\x80")), out, 8, &written), BYTES("\x01\x60\0\x01" "b" "\0\x01" "c")));
+    fill();
+    CHECK(wrote(bilqarush_from_compaction(BYTES(UNFINISHED), out, ROOM, &written), BYTES("\x01\x60\0\x01" "b" "\0\x02" "bb")));
+    fill();
+    CHECK(stopped(bilqarush_from_compaction(BYTES(UNFINISHED), out, 8, &written), 16));
+    CHECK(stopped(bilqarush_from_compaction(BYTES(UNFINISHED "\0"), out, ROOM, &written), 1));
+    CHECK(stopped(bilqarush_from_compaction(BYTES(NO_SOURCE), out, ROOM, &written), 8));
+}
+
+/* [c, f); A_TO_M ends included. */
+#define C_TO_F "\x60\0\x01" "c" "\0\x01" "f"
+
+static void what_is_left(void) {
+    fill();
+    CHECK(wrote(bilqarush_subtract_from(BYTES(C_TO_F), BYTES(A_TO_M), out, 15, &written),
+                BYTES("\x02\x60\0\x01" "a" "\0\x01" "c" "\x50\0\x01" "f" "\0\x01" "m")));
+    fill();
+    CHECK(wrote(bilqarush_subtract_from(BYTES(C_TO_F), BYTES(AFTER_C), out, ROOM, &written), BYTES("\x01\x40\0\x01" "f")));
+    fill();
+    CHECK(wrote(bilqarush_subtract_from(BYTES(EVERYTHING), BYTES(A_TO_M), out, 1, &written), BYTES("\0")));
+    fill();
+    CHECK(stopped(bilqarush_subtract_from(BYTES(C_TO_F), BYTES(A_TO_M), out, 14, &written), 16));
+    CHECK(stopped(bilqarush_subtract_from(BYTES(A_TO_M), BYTES(C_TO_F), out, ROOM, &written), 10));
+    CHECK(stopped(bilqarush_subtract_from(BYTES(AFTER_C), BYTES(EMPTY), out, ROOM, &written), 4));
+    CHECK(stopped(bilqarush_subtract_from(BYTES(EMPTY), BYTES(PADDED), out, ROOM, &written), 2));
+}
+
 int main(void) {
     keys_and_bounds();
     tests_of_ranges();
@@ -324,6 +360,8 @@ int main(void) {
     samples();
     plans();
     plans_of_images();
+    durable_intervals();
+    what_is_left();
     if (failures == 0) {
         printf("bindings/c/calls: each call answered as expected\n");
     }

@@ -9,6 +9,7 @@ mod encode;
 mod images;
 mod lookups;
 mod plans;
+mod progress;
 mod ranges;
 
 pub mod borrowed;
@@ -19,6 +20,7 @@ pub use lookups::{Index, Runs};
 pub use plans::{
     plan_subcompaction_ranges, sample_anchors, select_boundaries, Anchors, Plan, Sampling, Sources,
 };
+pub use progress::{from_compaction, subtract_from, Left, Progress, Recorded, Subtraction};
 pub use ranges::{
     as_point, cmp_bound, compare, contains, from_prefix, from_prefix_and_subrange, intersect,
     intersect_end_key, intersect_start_key, non_empty, union,

@@ -1,5 +1,5 @@
-//! Bilqarush: ranges of byte keys, images of runs, lookups in them and in indexes, visible sizes, and the plan and the commit
-//! of a compaction, after slatedb 0.18.0.
+//! Bilqarush: ranges of byte keys, images of runs, lookups in them and in indexes, visible sizes, and the plan, the
+//! progress and the commit of a compaction, after slatedb 0.18.0.
 //!
 //! A safe function for each call of `libbilqarush_c.a`, which is written in Rattle and proved: what each answers, for
 //! every input, is stated in `docs/PROMISES.md` of the repository. A call takes any bytes. It answers, or refuses with a
@@ -38,6 +38,7 @@ mod answer;
 mod images;
 mod lookups;
 mod plans;
+mod progress;
 mod ranges;
 pub mod raw;
 mod sizes;
@@ -50,6 +51,7 @@ pub use lookups::{
     overlaps_range, partition_point, partitions_covering_range, table_idx_covering_range, Test,
 };
 pub use plans::{plan_subcompaction_ranges, sample_anchors, select_boundaries};
+pub use progress::{from_compaction, subtract_from};
 pub use ranges::{
     as_point, cmp_bound, compare, contains, from_prefix, from_prefix_and_subrange, intersect,
     intersect_end_key, intersect_start_key, non_empty, range_image, union, Bounds, Joined, Range,
@@ -72,3 +74,7 @@ pub const IMAGE_LEN: usize = raw::BILQARUSH_IMAGE_LEN;
 pub const ANCHORS_LEN: usize = raw::BILQARUSH_ANCHORS_LEN;
 /// The longest plan that [`select_boundaries`] and [`plan_subcompaction_ranges`] write.
 pub const PLAN_LEN: usize = raw::BILQARUSH_PLAN_LEN;
+/// No durable intervals that [`from_compaction`] writes are longer.
+pub const DURABLE_LEN: usize = raw::BILQARUSH_DURABLE_LEN;
+/// The longest answer that [`subtract_from`] writes.
+pub const LEFT_LEN: usize = raw::BILQARUSH_LEFT_LEN;

@@ -51,6 +51,10 @@ pub const BILQARUSH_IMAGE_LEN: usize = 65536;
 pub const BILQARUSH_ANCHORS_LEN: usize = 65536;
 /// The longest answer of `select_boundaries` and `plan_subcompaction_ranges`.
 pub const BILQARUSH_PLAN_LEN: usize = 129341;
+/// No answer of `from_compaction` is longer.
+pub const BILQARUSH_DURABLE_LEN: usize = 65536;
+/// The longest answer of `subtract_from`.
+pub const BILQARUSH_LEFT_LEN: usize = 4107;
 
 unsafe extern "C" {
     /// The order of two keys.
@@ -363,6 +367,26 @@ unsafe extern "C" {
         image_len: usize,
         indexes: *const u8,
         indexes_len: usize,
+        out: *mut u8,
+        out_len: usize,
+        written: *mut usize,
+    ) -> u8;
+
+    /// The durable intervals of a job's parts.
+    pub fn bilqarush_from_compaction(
+        job: *const u8,
+        job_len: usize,
+        out: *mut u8,
+        out_len: usize,
+        written: *mut usize,
+    ) -> u8;
+
+    /// What of a range lies outside an interval.
+    pub fn bilqarush_subtract_from(
+        interval: *const u8,
+        interval_len: usize,
+        range: *const u8,
+        range_len: usize,
         out: *mut u8,
         out_len: usize,
         written: *mut usize,

@@ -58,9 +58,9 @@ fn the_same_functions() {
         (name.to_string(), parameters.to_string())
     });
     let in_header: Vec<_> = in_header.collect();
-    assert_eq!(in_header.len(), 31);
+    assert_eq!(in_header.len(), 33);
     assert_eq!(in_header, in_raw.collect::<Vec<_>>());
-    assert_eq!(raw.matches(") -> u8;").count(), 31);
+    assert_eq!(raw.matches(") -> u8;").count(), 33);
 }
 
 #[test]
@@ -76,7 +76,7 @@ fn the_same_constants() {
         Some((name, rest.split_once(" = ")?.1.trim_end_matches(';')))
     });
     let in_header: Vec<_> = in_header.collect();
-    assert_eq!(in_header.len(), 22);
+    assert_eq!(in_header.len(), 24);
     assert_eq!(in_header, in_raw.collect::<Vec<_>>());
 }
 

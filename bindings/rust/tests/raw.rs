@@ -3,8 +3,8 @@ mod common;
 
 use bilqarush::raw::*;
 use common::{
-    anchors, cut_view, example, excluded, image, included, index, plan, range, run, sized_table,
-    whole_view, UNWRITTEN,
+    anchors, cut_view, example, excluded, image, included, index, job, part, plan, range, run,
+    sized_table, table, whole_view, UNWRITTEN,
 };
 use std::ops::Bound::Unbounded;
 
@@ -461,4 +461,51 @@ fn plans_byte_by_byte() {
     assert_eq!(plan_ranges(65, &example(), &indexes, 99), (3, vec![]));
     assert_eq!(plan_ranges(64, &[0], &[], 2), (0, vec![1, 0]));
     assert_eq!(plan_ranges(64, &[0], &[0], 2), (1, vec![]));
+}
+
+fn from_compaction(job: &[u8], room: usize) -> (u8, Vec<u8>) {
+    told(room, |to, room, written| unsafe {
+        bilqarush_from_compaction(job.as_ptr(), job.len(), to, room, written)
+    })
+}
+
+fn subtract_from(interval: &[u8], range: &[u8], room: usize) -> (u8, Vec<u8>) {
+    told(room, |to, room, written| unsafe {
+        let (at, length) = (interval.as_ptr(), interval.len());
+        let (of, size) = (range.as_ptr(), range.len());
+        bilqarush_subtract_from(at, length, of, size, to, room, written)
+    })
+}
+
+#[test]
+fn durable_intervals_byte_by_byte() {
+    let done = part(range(Unbounded, excluded("c")), true, &[]);
+    let begun = part(
+        range(included("c"), Unbounded),
+        false,
+        &[table(1, "c", "f")],
+    );
+    let both = job(7, &[7], &[done, begun]);
+    let answer = b"\x02\x20\0\x01c\x60\0\x01c\0\x01f".to_vec();
+    assert_eq!(from_compaction(&both, 12), (0, answer.clone()));
+    assert_eq!(from_compaction(&both, 99), (0, answer));
+    assert_eq!(from_compaction(&both, 11), (16, vec![]));
+    assert_eq!(from_compaction(&both[1..], 99), (1, vec![]));
+    assert_eq!(from_compaction(&job(7, &[], &[]), 0), (8, vec![]));
+    assert_eq!(from_compaction(&job(7, &[7], &[]), 1), (0, vec![0]));
+    assert_eq!(from_compaction(&job(7, &[7], &[]), 0), (16, vec![]));
+}
+
+#[test]
+fn what_an_interval_leaves_byte_by_byte() {
+    let interval = range(included("c"), excluded("f"));
+    let wide = range(included("a"), included("z"));
+    let answer = b"\x02\x60\0\x01a\0\x01c\x50\0\x01f\0\x01z".to_vec();
+    assert_eq!(subtract_from(&interval, &wide, 15), (0, answer.clone()));
+    assert_eq!(subtract_from(&interval, &wide, 99), (0, answer));
+    assert_eq!(subtract_from(&interval, &wide, 14), (16, vec![]));
+    assert_eq!(subtract_from(&interval, &interval, 1), (0, vec![0]));
+    assert_eq!(subtract_from(&interval, &interval, 0), (16, vec![]));
+    assert_eq!(subtract_from(&wide, &interval, 99), (10, vec![]));
+    assert_eq!(subtract_from(&wide, b"\x01", 99), (2, vec![]));
 }

@@ -444,6 +444,8 @@ fn plan_record(record: &Record, room: usize, [first, second, _]: &[Vec<u8>; 3]) 
         1 => sample_anchors(setting, other, first, second, out),
         2 => select_boundaries(setting, other, first, out),
         3 => plan_subcompaction_ranges(setting, first, second, out),
+        10 => from_compaction(first, out),
+        11 => subtract_from(first, second, out),
         call => panic!("call {call}"),
     }))
 }
@@ -476,5 +478,5 @@ fn plans() {
             }
         }
     }
-    assert_eq!(called, 5702);
+    assert_eq!(called, 8029);
 }

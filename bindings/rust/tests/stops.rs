@@ -44,7 +44,7 @@ fn a_stop_is_an_error() {
 }
 
 #[test]
-fn no_bytes_are_stop_1_of_each_lookup_size_and_plan() {
+fn no_bytes_are_stop_1_of_each_lookup_size_plan_and_interval() {
     let nothing = b"";
     let stops = [
         partition_point(nothing, Test::Below, b"a").unwrap_err(),
@@ -63,6 +63,8 @@ fn no_bytes_are_stop_1_of_each_lookup_size_and_plan() {
         sample_anchors(1, 0, nothing, nothing, &mut []).unwrap_err(),
         select_boundaries(1, 0, nothing, &mut []).unwrap_err(),
         plan_subcompaction_ranges(1, nothing, nothing, &mut []).unwrap_err(),
+        from_compaction(nothing, &mut []).unwrap_err(),
+        subtract_from(nothing, nothing, &mut []).unwrap_err(),
     ];
     assert!(stops.iter().all(|stop| stop.to_string() == WORDS[0]));
 }

@@ -5,6 +5,7 @@ mod commits;
 mod images;
 mod lookups;
 mod plans;
+mod progress;
 mod sizes;
 
 pub use base::Tested;
@@ -40,6 +41,8 @@ pub use lookups::table_idx_covering_range;
 pub use plans::plan_subcompaction_ranges;
 pub use plans::sample_anchors;
 pub use plans::select_boundaries;
+pub use progress::from_compaction;
+pub use progress::subtract_from;
 pub use sizes::Estimated;
 pub use sizes::Shown;
 pub use sizes::VisibleFraction;

@@ -4,6 +4,7 @@ mod images;
 mod lookups;
 mod partitions;
 mod plans;
+mod progress;
 mod sizes;
 
 ghost use mathlib.Core.Path.{_≡_};

@@ -7,7 +7,7 @@ use format::key_of;
 use format::span::slice_of;
 use records::ViewId;
 ghost use mathlib.Core.Path.{_≡_};
-ghost use mathlib.Core.List.{[], _∷_, _++_};
+ghost use mathlib.Core.List.{_∷_};
 ghost use Prim.Native.Nat.{_≤_, _+_};
 ghost use lib.ListN.{length};
 ghost use Rattle.comparable_range.specs.Range.{of, rangeOf};

@@ -1,9 +1,9 @@
--- The starred edges of document 01, as rows of one checked list: what the definition of a call, of `subtract_from` or of a
--- durable interval answers, and what the paper says. Later sections add rows. Letters are ASCII.
+-- The starred edges of document 01, as rows of one checked list: what the definition of a call answers, and what the paper says.
+-- Letters are ASCII.
 use Prim.Native.Nat.{ℕ}
 use mathlib.Core.Path.{_≡_}
 use mathlib.Core.Bool.{Bool, true, false}
-use mathlib.Core.Option.{Option, none, some}
+use mathlib.Core.Option.{some}
 use mathlib.Core.List.{List, [], _∷_, map}
 use lib.IntN.{ℤ, pos, negsuc}
 use Rattle.base.specs.Outcome.{Outcome}
@@ -12,15 +12,14 @@ use Rattle.key.specs.Order.{Key}
 use Rattle.comparable_range.specs.Range.{Bound, unbounded, included, excluded, Range, holds}
 use Rattle.comparable_range.specs.Laws.{keyless}
 use Rattle.format.specs.Range.{writeRange}
-use Rattle.records.specs.Values.{Part}
-use Rattle.records.specs.Layouts.{index, anchors, plan}
+use Rattle.records.specs.Layouts.{job, index, anchors, plan}
 use Rattle.records.specs.Layouts as records
 use Rattle.partitioned_keyspace.specs.Partitions.{Places}
 use Rattle.partitioned_keyspace.specs.Calls.{partitionsCoveringRangeOutcome}
 use Rattle.view_sizes.specs.SizeCalls.{estimateVisibleSizeOutcome}
 use Rattle.subcompaction.specs.PlanCalls.{selectBoundariesOutcome}
-use Rattle.incremental_progress.specs.Intervals.{Interval, subtractFrom}
-use Rattle.incremental_progress.specs.Parts.{durable}
+use Rattle.from_compaction.specs.ProgressCalls.{fromCompactionOutcome}
+use Rattle.subtract_from.specs.SubtractCalls.{subtractFromOutcome}
 use Rattle.bilqarush.specs.Calls.{cmpBoundOutcome, nonEmptyOutcome, containsOutcome, fromPrefixOutcome}
 
 -- the answers of all calls in one type
@@ -29,8 +28,6 @@ pub data Answer : Type 0 where
   is : Bool → Answer
   order : ℤ → Answer
   bytes : List ℕ → Answer
-  ranges : List Range → Answer
-  interval : Option Interval → Answer
   places : ℕ → ℕ → Answer
   size : ℕ → Answer
 
@@ -87,25 +84,26 @@ z = 122 ∷ []
 abbrev ulid : List ℕ
 ulid = 0 ∷ 0 ∷ 0 ∷ 0 ∷ 0 ∷ 0 ∷ 0 ∷ 0 ∷ 0 ∷ 0 ∷ 0 ∷ 0 ∷ 0 ∷ 0 ∷ 0 ∷ 1 ∷ []
 
-abbrev fromCtoF : Interval
-fromCtoF = record { start = some c; end = some f }
-
--- a part from c on, whose worker wrote one table, from c to the last key given
-abbrev unfinished : Key → Part
-unfinished last =
-    record {
-      planned = record { start = included c; end = unbounded };
-      completed = false;
-      outputs =
-          record { id = record { 0 = [] }; index-offset = 0; index-len = 0; filter-offset = 0; first = c; last = some last }
-          ∷ [];
-    }
-
 abbrev range : Bound → Bound → Range
 range s e = record { start = s; end = e }
 
 abbrev image : Bound → Bound → List ℕ
 image s e = writeRange (range s e)
+
+-- a job of run 7 into itself, with a part from c on, whose worker wrote one table, from c to the last key given
+abbrev unfinished : Key → List ℕ
+unfinished last =
+    job .write (record {
+      destination = 7;
+      sources = 7 ∷ [];
+      parts = record {
+        planned = range (included c) unbounded;
+        completed = false;
+        outputs =
+            record { id = record { 0 = ulid }; index-offset = 0; index-len = 0; filter-offset = 0; first = c; last = some last }
+            ∷ [];
+      } ∷ [];
+    })
 
 abbrev indexOf : List Key → List ℕ
 indexOf ks = index .write (map (λ k. record { offset = 0; first = k }) ks)
@@ -158,12 +156,12 @@ edges =
     ∷ (writing (selectBoundariesOutcome 2 0 (anchorsOf ((a, 5) ∷ (b, 30) ∷ (b, 10) ∷ (c, 5) ∷ [])) 9) ∶ bytes (planOf (range unbounded (excluded b) ∷ range (included b) unbounded ∷ [])))
     ∷ (writing (selectBoundariesOutcome 2 0 (anchorsOf ((a, 5) ∷ (b, 10) ∷ (b, 30) ∷ (c, 5) ∷ [])) 9) ∶ bytes (planOf (range unbounded (excluded c) ∷ range (included c) unbounded ∷ [])))
     -- [a,z] less [c,f): [a,c), [f,z]; [c,f] less it: [f,f]
-    ∷ (ranges (subtractFrom fromCtoF (range (included a) (included z))) ∶ ranges (range (included a) (excluded c) ∷ range (included f) (included z) ∷ []))
-    ∷ (ranges (subtractFrom fromCtoF (range (included c) (included f))) ∶ ranges (range (included f) (included f) ∷ []))
+    ∷ (writing (subtractFromOutcome (image (included c) (excluded f)) (image (included a) (included z)) 15) ∶ bytes (planOf (range (included a) (excluded c) ∷ range (included f) (included z) ∷ [])))
+    ∷ (writing (subtractFromOutcome (image (included c) (excluded f)) (image (included c) (included f)) 8) ∶ bytes (planOf (range (included f) (included f) ∷ [])))
     -- unfinished part from c, last key c: no interval
-    ∷ (interval (durable (unfinished c)) ∶ interval none)
+    ∷ (writing (fromCompactionOutcome (unfinished c) 1) ∶ bytes (planOf []))
     -- and with last key f: up to f, without it
-    ∷ (interval (durable (unfinished f)) ∶ interval (some fromCtoF))
+    ∷ (writing (fromCompactionOutcome (unfinished f) 8) ∶ bytes (planOf (range (included c) (excluded f) ∷ [])))
     ∷ []
 
 abbrev pub EdgesHold : Type 0

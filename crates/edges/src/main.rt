@@ -56,7 +56,7 @@ fn wide(x: u8) -> u64 {
     x as u64
 }
 
-// A range image that was written, in hexadecimal.
+// A range image or a plan that was written, in hexadecimal.
 fn print_range(name: &[u8], out: &[u8], w: Written) {
     io::write_all(1, name);
     match w {
@@ -208,6 +208,43 @@ fn plans() {
     print_plan(b"a 5, b 10, b 30, c 5, 2 parts", 2, 0, heavy_next);
 }
 
+// What an interval leaves of a range.
+fn print_left<'a>(name: &[u8], interval: &'a [u8], range: &'a [u8]) {
+    let mut out = [0u8; 16];
+    let w = bilqarush::subtract_from(interval, range, &mut out);
+    print_range(name, &out, w);
+}
+
+fn subtractions() {
+    let interval = b"\x60\x00\x01c\x00\x01f";
+    print_left(b"[a,z] less [c,f)", interval, b"\x50\x00\x01a\x00\x01z");
+    print_left(b"[c,f] less [c,f)", interval, b"\x50\x00\x01c\x00\x01f");
+}
+
+// What of a job is durable.
+fn print_durable(name: &[u8], job: &[u8]) {
+    let mut out = [0u8; 16];
+    let w = bilqarush::from_compaction(job, &mut out);
+    print_range(name, &out, w);
+}
+
+// Run 7 into itself, with a part from c on, unfinished. A line each: destination, sources and parts; planned range, flag and outputs;
+// id; the three sizes; keys.
+fn progress() {
+    let at_the_start = b"\x00\x00\x00\x07\x01\x00\x00\x00\x07\x01\
+          \x40\x00\x01c\x00\x01\
+          \x00\x00\x00\x00\x00\x00\x00\x00\x00\x00\x00\x00\x00\x00\x00\x01\
+          \x00\x00\x00\x00\x00\x00\x00\x00\x00\x00\x00\x00\x00\x00\x00\x00\x00\x00\x00\x00\x00\x00\x00\x00\
+          \x80\x00\x01c\x00\x01c";
+    print_durable(b"unfinished from c, last key c", at_the_start);
+    let later = b"\x00\x00\x00\x07\x01\x00\x00\x00\x07\x01\
+          \x40\x00\x01c\x00\x01\
+          \x00\x00\x00\x00\x00\x00\x00\x00\x00\x00\x00\x00\x00\x00\x00\x01\
+          \x00\x00\x00\x00\x00\x00\x00\x00\x00\x00\x00\x00\x00\x00\x00\x00\x00\x00\x00\x00\x00\x00\x00\x00\
+          \x80\x00\x01c\x00\x01f";
+    print_durable(b"unfinished from c, last key f", later);
+}
+
 // Keys at the ceiling, and past it.
 fn keys() {
     let longest = [97u8; 1024];
@@ -255,6 +292,8 @@ fn main() {
     partitions();
     sizes();
     plans();
+    subtractions();
+    progress();
     keys();
     buffers();
 }

@@ -1,4 +1,4 @@
-// The calls of bilqarush that plan, each made with a record's arguments and held to its answer.
+// The calls of bilqarush that plan and those on durable intervals, each made with a record's arguments and held to its answer.
 use replay::buffer;
 use replay::piece::Fields;
 
@@ -17,15 +17,33 @@ fn planning(f: Fields, image: &[u8], indexes: &[u8], answer: &[u8], out: &mut [u
     buffer::written_is(answer, out, w)
 }
 
+fn progressing(job: &[u8], answer: &[u8], out: &mut [u8]) -> bool {
+    let w = bilqarush::from_compaction(job, out);
+    buffer::written_is(answer, out, w)
+}
+
+fn subtracting<'a>(interval: &'a [u8], range: &'a [u8], answer: &[u8], out: &mut [u8]) -> bool {
+    let w = bilqarush::subtract_from(interval, range, out);
+    buffer::written_is(answer, out, w)
+}
+
 // Whether a record's call answers what it recorded. An unknown call never does. The lent buffer is filled first, so that a byte
 // which is not to be written is seen if it is.
-pub fn agrees(f: Fields, first: &[u8], second: &[u8], answer: &[u8], out: &mut [u8]) -> bool {
+pub fn agrees<'a>(
+    f: Fields,
+    first: &'a [u8],
+    second: &'a [u8],
+    answer: &[u8],
+    out: &mut [u8],
+) -> bool {
     buffer::fill(out);
     let call = f.call;
     match call {
         1 => sampling(f, first, second, answer, out),
         2 => selecting(f, first, answer, out),
         3 => planning(f, first, second, answer, out),
-        0 | 4..=255 => false,
+        10 => progressing(first, answer, out),
+        11 => subtracting(first, second, answer, out),
+        0 | 4..=9 | 12..=255 => false,
     }
 }

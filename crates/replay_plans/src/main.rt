@@ -1,7 +1,7 @@
-// Replays recorded answers to the calls that plan. A record of standard input changes one of three buffers, the two that a call
-// reads and the answer, or it is a call on them, which is made here. What the call answers and every byte of the lent buffer are
-// held to the recorded answer: anchors and plans are the Rust's, stops are those of a second reading of document 01. A line for
-// each call and for each stop says how many agree.
+// Replays recorded answers to the calls that plan and to those on durable intervals. A record of standard input changes one of three
+// buffers, the two that a call reads and the answer, or it is a call on them, which is made here. What the call answers and every
+// byte of the lent buffer are held to the recorded answer: anchors, plans and intervals are the Rust's, stops are those of a second
+// reading of document 01. A line for each call and for each stop says how many agree.
 mod calls;
 
 use replay::buffer;
@@ -41,24 +41,28 @@ fn with(held: Lengths, buffer: u8, length: usize) -> Lengths {
     }
 }
 
-// The calls are 1 to 3, and an unknown one is counted as 0.
+// The calls are 1 to 3, 10 and 11, and an unknown one is counted as 0.
 fn call_slot(call: u8) -> usize
-    ensures { λ r. ⌜ r < 4 ⌝ }
+    ensures { λ r. ⌜ r < 6 ⌝ }
 {
-    if call < 4 {
-        return call as usize;
+    match call {
+        1 => 1,
+        2 => 2,
+        3 => 3,
+        10 => 4,
+        11 => 5,
+        0 | 4..=9 | 12..=255 => 0,
     }
-    0
 }
 
 // Where records are counted by their stop, 0 if none.
 fn stop_slot(stop: u8) -> usize
-    ensures { λ r. ⌜ r < 22 ⌝ }
+    ensures { λ r. ⌜ r < 24 ⌝ }
 {
     if stop < 17 {
-        return 4 + stop as usize;
+        return 6 + stop as usize;
     }
-    21
+    23
 }
 
 // What a record did.
@@ -89,11 +93,11 @@ fn repeat_turn(f: Fields, number: u8, buffer: &mut [u8], held: usize) -> Turn {
 }
 
 // A call, into a buffer of just the room that follows the head.
-fn call_turn(
+fn call_turn<'a>(
     f: Fields,
     held: Lengths,
-    first: &[u8],
-    second: &[u8],
+    first: &'a [u8],
+    second: &'a [u8],
     answer: &[u8],
     out: &mut [u8],
 ) -> Turn {
@@ -203,6 +207,8 @@ fn print_counts(counts: &[u64]) {
     tally::print_call(b"sample_anchors", counts, call_slot(1));
     tally::print_call(b"select_boundaries", counts, call_slot(2));
     tally::print_call(b"plan_subcompaction_ranges", counts, call_slot(3));
+    tally::print_call(b"from_compaction", counts, call_slot(10));
+    tally::print_call(b"subtract_from", counts, call_slot(11));
     tally::print_call(b"no stop", counts, stop_slot(0));
     print_stop(counts, 1);
     print_stop(counts, 2);
@@ -211,6 +217,9 @@ fn print_counts(counts: &[u64]) {
     print_stop(counts, 5);
     print_stop(counts, 6);
     print_stop(counts, 7);
+    print_stop(counts, 8);
+    print_stop(counts, 10);
+    print_stop(counts, 11);
     print_stop(counts, 15);
     print_stop(counts, 16);
 }
@@ -221,7 +230,7 @@ fn main() {
     // 64 ranges of the longest keys take some 127,000 bytes.
     let mut answer = [0u8; 131072];
     let mut out = [0u8; 131072];
-    let mut counts = [0u64; 44];
+    let mut counts = [0u64; 48];
     let left = replay_all(&mut first, &mut second, &mut answer, &mut out, &mut counts);
     print_counts(&counts);
     tally::print_number(b"unknown", tally::count_of(&counts, 0));

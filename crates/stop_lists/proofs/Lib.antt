@@ -2,10 +2,12 @@ pub mod Stopping
 pub mod GivenStops
 pub mod LookupStops
 pub mod PlanStops
+pub mod ProgressStops
 pub mod Stops
 pub mod Refused
 pub mod LookupsReached
 pub mod ManyAnchors
 pub mod PlansReached
+pub mod ProgressReached
 pub mod Reached
 pub mod Crowded

@@ -2,7 +2,6 @@
 -- Assumes nothing.
 use Prim.Native.Nat.{ℕ}
 use mathlib.Core.Path.{refl}
-use mathlib.Core.Bool.{false}
 use mathlib.Core.Option.{none}
 use mathlib.Core.List.{List, [], _∷_, _++_, flatMap}
 use Rattle.base.specs.Outcome.{Outcome, andThen}
@@ -38,8 +37,9 @@ use Rattle.bilqarush.specs.Calls.{rangeGiven, rangesGiven, compareOutcome, cmpB
 use Rattle.bilqarush.specs.ImageCalls.{checkImageOutcome, compactedEffectiveRangeOutcome, listOutcome}
 use Rattle.stop_lists.specs.Stops.{intersectStops, visibleSizeStops, Reached, no-more, reached, EachListedStopIsReached, GivenToCommit, CommitStopsAreReached}
 use Rattle.stop_lists.proofs.Crowded.{zeros, crowd, bare, crowd-is-refused}
-use Rattle.stop_lists.proofs.Refused.{padded, long, empty, every, aTable, imageOf, paddedRun, tooManyRuns, emptyView, turned, twice, large, noRuns}
+use Rattle.stop_lists.proofs.Refused.{padded, long, empty, every, aTable, imageOf, paddedRun, tooManyRuns, emptyView, turned, twice, large, noRuns, jobOf}
 use Rattle.stop_lists.proofs.PlansReached.{sampling, selecting, planning}
+use Rattle.stop_lists.proofs.ProgressReached.{progressing, subtracting}
 use Rattle.stop_lists.proofs.LookupsReached.{reached-by, after, partition-point, first-partition, first-or-after, last-partition, partitions-covering, table-idx, overlaps, compacted-intersection, view-range, intersects}
 
 intersecting : Reached (λ (x : List ℕ × List ℕ). intersectOutcome (x .0) (x .1)) intersectStops
@@ -101,20 +101,13 @@ each-listed-stop-is-reached =
       sample-anchors = sampling;
       select-boundaries = selecting;
       plan-subcompaction-ranges = planning;
+      from-compaction = progressing;
+      subtract-from = subtracting;
     }
 
 -- ---- commits
 abbrev from : Key → Range
 from k = record { start = included k; end = unbounded }
-
--- a record of run 7's compaction into itself, with one part, not completed, and one output from a to c
-abbrev jobOf : List ℕ → Range → List ℕ
-jobOf sources planned =
-    job .write (record {
-      destination = 7;
-      sources = sources;
-      parts = record { planned = planned; completed = false; outputs = aTable 0 (97 ∷ []) (99 ∷ []) ∷ [] } ∷ [];
-    })
 
 -- run 7 without views
 abbrev bareRun : List ℕ

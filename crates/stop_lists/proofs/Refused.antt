@@ -1,12 +1,13 @@
 -- Inputs that are refused, each by one stop.
 -- Assumes nothing.
 use Prim.Native.Nat.{ℕ, _^_}
+use mathlib.Core.Bool.{false}
 use mathlib.Core.Option.{Option, none, some}
 use mathlib.Core.List.{List, [], _∷_, _++_, map}
 use Rattle.key.specs.Order.{Key}
 use Rattle.comparable_range.specs.Range.{Range, included, excluded}
 use Rattle.records.specs.Values.{Table}
-use Rattle.records.specs.Layouts.{image, index}
+use Rattle.records.specs.Layouts.{image, job, index}
 use Rattle.stop_lists.proofs.Crowded.{zeros}
 
 -- ---- range images
@@ -67,6 +68,20 @@ large = imageOf (aTable (2 ^ 53) [] []) none
 
 abbrev pub noRuns : List ℕ
 noRuns = 0 ∷ []
+
+-- ---- jobs
+-- a record of run 7's compaction into itself, with one part, not completed, and one output
+abbrev pub jobWith : List ℕ → Range → Table → List ℕ
+jobWith sources planned output =
+    job .write (record {
+      destination = 7;
+      sources = sources;
+      parts = record { planned = planned; completed = false; outputs = output ∷ [] } ∷ [];
+    })
+
+-- its output from a to c
+abbrev pub jobOf : List ℕ → Range → List ℕ
+jobOf sources planned = jobWith sources planned (aTable 0 (97 ∷ []) (99 ∷ []))
 
 -- ---- index images
 -- with blocks of these first keys

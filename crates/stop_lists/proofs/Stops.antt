@@ -35,6 +35,7 @@ use Rattle.stop_lists.proofs.Stopping.{checks, and-then, written, key-g
 use Rattle.stop_lists.proofs.GivenStops.{whole-range, range-given, ranges-given, bound-given, three-listed, seven-listed, checked-stops, whole-image, image-given, views-at, view-given}
 use Rattle.stop_lists.proofs.LookupStops.{index-and-key, index-and-range, table-idx-stops, overlaps-stops, compacted-intersection-stops, view-range-stops, intersects-stops}
 use Rattle.stop_lists.proofs.PlanStops.{sample-anchors-stops, select-boundaries-stops, plan-stops}
+use Rattle.stop_lists.proofs.ProgressStops.{from-compaction-stops, subtract-from-stops}
 
 -- ---- a commit
 drawn-stops : {ns : List ℕ} {A : Type 0} (d : Drawn A) → has 14 ns ≡ true → StopsIn ns (drawnOr d)
@@ -124,6 +125,8 @@ each-stop-is-listed =
       sample-anchors = sample-anchors-stops;
       select-boundaries = select-boundaries-stops;
       plan-subcompaction-ranges = plan-stops;
+      from-compaction = from-compaction-stops;
+      subtract-from = subtract-from-stops;
       commit = commit-stops;
     }
 
@@ -170,5 +173,7 @@ no-stop-is-zero =
       sample-anchors = λ most dataEnd l q room. unlisted 0 (each .sample-anchors most dataEnd l q room) refl;
       select-boundaries = λ parts least l room. unlisted 0 (each .select-boundaries parts least l room) refl;
       plan-subcompaction-ranges = λ parts l m room. unlisted 0 (each .plan-subcompaction-ranges parts l m room) refl;
+      from-compaction = λ l room. unlisted 0 (each .from-compaction l room) refl;
+      subtract-from = λ l q room. unlisted 0 (each .subtract-from l q room) refl;
       commit = λ given job′ ids room. unlisted 0 (each .commit given job′ ids room) refl;
     }

@@ -11,6 +11,8 @@ use Rattle.partitioned_keyspace.specs.declared.Test.the-variants.{Below}
 use Rattle.db_state.specs.LookupCalls.{tableIdxCoveringRangeOutcome, overlapsRangeOutcome, compactedIntersectionOutcome, calculateViewRangeOutcome, intersectsRangeOutcome}
 use Rattle.view_sizes.specs.SizeCalls.{visibleFractionOutcome, estimateVisibleSizeOutcome, estimateRunVisibleSizeOutcome}
 use Rattle.subcompaction.specs.PlanCalls.{sampleAnchorsOutcome, selectBoundariesOutcome, planSubcompactionRangesOutcome}
+use Rattle.from_compaction.specs.ProgressCalls.{fromCompactionOutcome}
+use Rattle.subtract_from.specs.SubtractCalls.{subtractFromOutcome}
 use Rattle.incremental_progress.specs.Commit.{commitOutcome}
 use Rattle.incremental_progress.specs.Repeated.{StopsIn}
 use Rattle.bilqarush.specs.Calls.{compareOutcome, cmpBoundOutcome, nonEmptyOutcome, containsOutcome, asPointOutcome, intersectOutcome, intersectStartKeyOutcome, intersectEndKeyOutcome, unionOutcome, fromPrefixOutcome, fromPrefixAndSubrangeOutcome}
@@ -95,6 +97,16 @@ selectBoundariesStops = 1 ∷ 3 ∷ 7 ∷ 16 ∷ []
 abbrev pub planSubcompactionRangesStops : List ℕ
 planSubcompactionRangesStops = 1 ∷ 2 ∷ 3 ∷ 4 ∷ 5 ∷ 6 ∷ 7 ∷ 15 ∷ 16 ∷ []
 
+-- the job is not read or fails a check on ranges, tables or sizes, its destination is not a source, its parts or outputs are out of
+-- order, the buffer is shorter than the intervals
+abbrev pub fromCompactionStops : List ℕ
+fromCompactionStops = 1 ∷ 2 ∷ 3 ∷ 4 ∷ 5 ∷ 7 ∷ 8 ∷ 10 ∷ 11 ∷ 16 ∷ []
+
+-- the interval or the range is not read or fails `non_empty`, the interval starts excluded or ends included, the buffer is shorter than
+-- what is left
+abbrev pub subtractFromStops : List ℕ
+subtractFromStops = 1 ∷ 2 ∷ 3 ∷ 4 ∷ 10 ∷ 16 ∷ []
+
 -- every one but 13: a retained range never misses its table's own range
 abbrev pub commitStops : List ℕ
 commitStops = 1 ∷ 2 ∷ 3 ∷ 4 ∷ 5 ∷ 6 ∷ 7 ∷ 8 ∷ 9 ∷ 10 ∷ 11 ∷ 12 ∷ 14 ∷ 15 ∷ 16 ∷ []
@@ -149,6 +161,10 @@ pub record OfEachCall (Says : (A : Type 0) → List ℕ → Outcome A → Type 0
   pub plan-subcompaction-ranges :
       (parts : ℕ) (image indexes : List ℕ) (room : ℕ)
       → Says _ planSubcompactionRangesStops (planSubcompactionRangesOutcome parts image indexes room)
+  pub from-compaction : (job : List ℕ) (room : ℕ) → Says _ fromCompactionStops (fromCompactionOutcome job room)
+  pub subtract-from :
+      (interval range : List ℕ) (room : ℕ)
+      → Says _ subtractFromStops (subtractFromOutcome interval range room)
   pub commit : (image job ids : List ℕ) (room : ℕ) → Says _ commitStops (commitOutcome image job ids room)
 
 -- no call stops with a number that is not in its list
@@ -200,6 +216,8 @@ pub record EachListedStopIsReached : Type 0 where
   pub sample-anchors : Reached (λ (x : List ℕ × List ℕ). sampleAnchorsOutcome 1 0 (x .0) (x .1) 0) sampleAnchorsStops
   pub select-boundaries : Reached (λ (x : ℕ × List ℕ). selectBoundariesOutcome (x .0) 0 (x .1) 0) selectBoundariesStops
   pub plan-subcompaction-ranges : Reached (λ (x : List ℕ × List ℕ). planSubcompactionRangesOutcome 1 (x .0) (x .1) 0) planSubcompactionRangesStops
+  pub from-compaction : Reached (λ (job : List ℕ). fromCompactionOutcome job 0) fromCompactionStops
+  pub subtract-from : Reached (λ (x : List ℕ × List ℕ). subtractFromOutcome (x .0) (x .1) 0) subtractFromStops
 
 pub record GivenToCommit : Type 0 where
   pub image : List ℕ

@@ -1,16 +1,15 @@
 -- The exits of `subtract_from` and of the function that it calls once both ranges are read.
 -- Assumes nothing.
 use Prim.Native.Nat.{ℕ, _≤_}
-use native.Mathlib.Omega.{arith}
 use mathlib.Core.Path.{_≡_, refl, sym, ap, _∙_}
-use mathlib.Core.Bool.{Bool, true, false, _&&_, and-false}
+use mathlib.Core.Bool.{Bool, true, false, and-false}
 use mathlib.Core.List.{List}
 use lib.ListN.{length}
 use Rattle.base.specs.Outcome.{Outcome, stop, answer, lent, reported, writtenTo}
 use Rattle.base.specs.declared.Written.{Written}
 use Rattle.base.specs.declared.Written.the-variants.{Stop}
 use Rattle.key.specs.Order.{Key}
-use Rattle.comparable_range.specs.Range.{Range, boundOf, rangeOf, nonEmpty}
+use Rattle.comparable_range.specs.Range.{Range, rangeOf, nonEmpty}
 use Rattle.comparable_range.specs.declared.Kind.{Kind}
 use Rattle.comparable_range.specs.declared.Kind.the-variants.{Unbounded, Included, Excluded}
 use Rattle.format.specs.Range.{readRange, boundIn, rangeIn, BoundInside, RangeWhole}
@@ -45,12 +44,6 @@ kinds-open Included s Included e = refl
 kinds-open Included s Excluded e = refl
 
 module _ (a b : List ℕ) (t f s e : BoundSpan) (room : ℕ) where
-  abbrev r : Range
-  r = rangeIn a t f
-
-  abbrev d : Range
-  d = rangeIn b s e
-
   module _ {p : Bool} (i : p ≡ nonEmpty (rangeIn b s e)) where
     interval-fails : p ≡ false → subtractedTo room (rangeIn b s e) (rangeIn a t f) ≡ stop 4
     unfolding subtracted

@@ -1,15 +1,15 @@
 -- The interval that holds no key.
 -- Assumes nothing.
-use mathlib.Core.Path.{_≡_, refl, sym, ap, _∙_}
-use mathlib.Core.Bool.{Bool, true, false, true≢false}
+use mathlib.Core.Path.{_≡_, refl, sym, _∙_}
+use mathlib.Core.Bool.{true, false, true≢false}
 use mathlib.Core.List.{[], _∷_}
-use Rattle.key.specs.Order.{Key, cmpKey}
-use Rattle.comparable_range.specs.Range.{Bound, unbounded, included, excluded, Range, cmpBound, boundsPass, nonEmpty, startHolds, endHolds, holds, startSide, endSide, overlap, intersectSides}
+use Rattle.key.specs.Order.{cmpKey}
+use Rattle.comparable_range.specs.Range.{Bound, unbounded, included, excluded, Range, cmpBound, boundsPass, startHolds, endHolds, holds, startSide, endSide, overlap, intersectSides}
 use Rattle.comparable_range.specs.Laws.{keylessBounds}
 use Rattle.comparable_range.proofs.Keyless.{included-start-is-held, keyless-pass-and-hold-none}
 use Rattle.incremental_progress.specs.Intervals.{partBefore, partFrom, subtractFrom}
 use Rattle.subtract_from.specs.SubtractCalls.{halfOpen}
-use Rattle.subtract_from.specs.SubtractLaws.{IsInterval, less, keylessInterval, HoldsNoKey, OneIntervalHoldsNoKey, KeylessIntervalHoldsNoKey, sinceEmptyKey, fromEmptyKey, KeylessIntervalWritesTheEmptyKey}
+use Rattle.subtract_from.specs.SubtractLaws.{IsInterval, keylessInterval, HoldsNoKey, OneIntervalHoldsNoKey, KeylessIntervalHoldsNoKey, sinceEmptyKey, KeylessIntervalWritesTheEmptyKey}
 
 -- ---- there is one only
 abbrev range : Bound → Bound → Range

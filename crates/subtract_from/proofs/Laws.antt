@@ -1,16 +1,18 @@
 -- The laws of what is left of a range, over values.
 -- Assumes nothing.
-use Prim.Native.Nat.{ℕ, _≤_}
+use Prim.Native.Nat.{_≤_}
 use native.Mathlib.Omega.{arith}
-use mathlib.Core.Path.{_≡_, refl, sym, ap, _∙_}
-use mathlib.Core.Bool.{Bool, true, false, not, _&&_, true≢false}
+use mathlib.Core.Path.{_≡_, refl, sym, ap}
+use mathlib.Core.Bool.{Bool, true, false, not, true≢false}
 use mathlib.Core.Option.{Option, none, some}
-use mathlib.Core.List.{List, [], _∷_, _++_}
+use mathlib.Core.List.{_++_}
 use lib.ListN.{length}
 use Rattle.base.specs.Pick.{pick, and-first, and-second}
 use Rattle.base.specs.Lists.{All, All-map, All-append, Pairwise, Pairwise-append}
 use Rattle.key.specs.Order.{Key}
-use Rattle.comparable_range.specs.Range.{Bound, unbounded, included, excluded, Range, nonEmpty, startSide, endSide, chosen, overlap, intersectSides, intersect}
+use Rattle.comparable_range.specs.Range.{Bound, unbounded, included, excluded, Range, nonEmpty, of, startSide, endSide, chosen, overlap, intersectSides, intersect}
+use Rattle.comparable_range.specs.declared.Side.{Side}
+use Rattle.comparable_range.specs.declared.Side.the-variants.{First, Second}
 use Rattle.comparable_range.specs.declared.Sides.the-variants.{Nothing, From}
 use Rattle.comparable_range.specs.Cut.{before, _≼_, startCut, endCut}
 use Rattle.comparable_range.proofs.Cut.{≼-trans, ≺-≼}
@@ -21,8 +23,8 @@ use Rattle.incremental_progress.specs.Checks.{isIncluded}
 use Rattle.incremental_progress.specs.Intervals.{listed, partBefore, partFrom, subtractFrom, startBound, endBound, toRange}
 use Rattle.incremental_progress.specs.Parts.{keyOf}
 use Rattle.incremental_progress.proofs.Subtraction.{Valid, times-subtract, subtract-absorbs, subtract-commutes}
-use Rattle.subtract_from.specs.SubtractCalls.{fromPlannedRange, halfOpen}
-use Rattle.subtract_from.specs.SubtractLaws.{IsInterval, less, KeysOutsideAreHeldOnce, AtMostTwoParts, PartsAscend, PartsPass, LesserIsAbsorbed, OneAfterTheOtherCommute}
+use Rattle.subtract_from.specs.SubtractCalls.{fromPlannedRange, halfOpen, subtracted}
+use Rattle.subtract_from.specs.SubtractLaws.{IsInterval, less, KeysOutsideAreHeldOnce, AtMostTwoParts, PartsAscend, PartsPass, NoPartStartsExcluded, PartsAreTakenAgain, LesserIsAbsorbed, OneAfterTheOtherCommute}
 
 -- ---- an interval and the range that gives it
 start-back : (b : Bound) → not (isExcluded b) ≡ true → startBound (keyOf b) ≡ b
@@ -43,9 +45,6 @@ module _ (d : Range) (i : IsInterval d) where
   ends : endBound (keyOf (d .end)) ≡ d .end
   unfolding halfOpen
   ends = end-back (d .end) (and-second (not (isExcluded (d .start))) _ (i .half-open))
-
-  range-is : toRange (fromPlannedRange d) ≡ d
-  range-is = rw (starts, ends)
 
   valid : Valid (fromPlannedRange d)
   valid = rw (starts, ends) (i .passes)
@@ -91,6 +90,19 @@ module _ (P : Range → Type 0) (r : Range) where
 
 pub parts-pass : PartsPass
 parts-pass d r = parts-all (λ p. nonEmpty p ≡ true) r d (λ k e h. h) (λ k e h. h)
+
+of-not : (s : Side) (a b : Bound) → isExcluded a ≡ false → isExcluded b ≡ false → isExcluded (of s a b) ≡ false
+of-not First a b h k = h
+of-not Second a b h k = k
+
+pub no-part-starts-excluded : NoPartStartsExcluded
+no-part-starts-excluded d r h =
+    parts-all (λ p. isExcluded (p .start) ≡ false) r d (λ k e p. of-not (startSide (r .start) unbounded) (r .start) unbounded h refl)
+    (λ k e p. of-not (startSide (r .start) (included k)) (r .start) (included k) h refl)
+
+pub parts-are-taken-again : PartsAreTakenAgain
+unfolding subtracted
+parts-are-taken-again d e r i = All-map (λ p h. rw (i .passes, h, i .half-open)) (less d r) (parts-pass d r)
 
 -- ---- how many there are, and how they lie
 two : (o p : Option Range) → length (listed o ++ listed p) ≤ 2

@@ -1,14 +1,14 @@
 -- The exits of the functions that find the parts of a range.
 -- Assumes nothing.
 use Prim.Native.Nat.{ℕ}
-use mathlib.Core.Path.{_≡_, refl, sym, ap, _∙_}
+use mathlib.Core.Path.{_≡_, refl, sym, _∙_}
 use mathlib.Core.Bool.{Bool, true, false, true≢false}
-use mathlib.Core.Option.{Option, none, some}
+use mathlib.Core.Option.{none, some}
 use mathlib.Core.List.{List}
 use lib.ListN.{take, drop}
 use Rattle.key.specs.Order.{Key}
 use Rattle.comparable_range.specs.Factors.{isKeyed}
-use Rattle.comparable_range.specs.Range.{Bound, unbounded, included, excluded, Range, boundOf, of, intersectSides, intersect}
+use Rattle.comparable_range.specs.Range.{unbounded, included, excluded, boundOf, of, intersectSides, intersect}
 use Rattle.comparable_range.specs.declared.Kind.{Kind}
 use Rattle.comparable_range.specs.declared.Kind.the-variants.{Unbounded, Included, Excluded}
 use Rattle.comparable_range.specs.declared.Side.{Side}

@@ -1,17 +1,15 @@
 -- The exits of the functions that measure and put the parts of a range.
 -- Assumes nothing.
-use Prim.Native.Nat.{ℕ, _+_, _≤_, _<_, _^_}
+use Prim.Native.Nat.{ℕ, _+_, _≤_}
 use native.Mathlib.Omega.{arith}
-use native.Mathlib.Nat.{zero-add, add-zero}
+use native.Mathlib.Nat.{zero-add}
 use mathlib.Core.Path.{_≡_, refl, sym, ap, _∙_}
-use mathlib.Core.List.{List, [], _∷_, _++_, append-nil}
+use mathlib.Core.List.{List, _++_, append-nil}
 use lib.ListN.{length, take, drop, length-append, length-take, length-drop}
-use mir.Val.{Fits}
-use mir.Syntax.{w64}
 use Rattle.base.specs.Outcome.{over}
 use Rattle.base.specs.Splice.{splice}
 use Rattle.key.specs.Order.{Key}
-use Rattle.comparable_range.specs.Range.{Range, boundOf, rangeOf, of}
+use Rattle.comparable_range.specs.Range.{boundOf, rangeOf, of}
 use Rattle.comparable_range.specs.declared.Kind.{Kind}
 use Rattle.comparable_range.specs.declared.Kind.the-variants.{Unbounded, Included, Excluded}
 use Rattle.comparable_range.specs.declared.Side.{Side}
@@ -19,7 +17,7 @@ use Rattle.comparable_range.specs.declared.Side.the-variants.{First, Second}
 use Rattle.format.specs.Joint as joint
 use Rattle.format.specs.Number.{writeNumber}
 use Rattle.format.specs.Range.{writeRange}
-use Rattle.format.specs.Span.{SuppliedInside, suppliedBound, boundKey, JointInside, jointIn, MetInside}
+use Rattle.format.specs.Span.{SuppliedInside, suppliedBound, boundKey, jointIn, MetInside}
 use Rattle.format.specs.declared.span.Supplied.{Supplied}
 use Rattle.format.specs.declared.span.JointSpan.{JointSpan}
 use Rattle.format.specs.declared.span.Met.{Met}
@@ -32,7 +30,7 @@ use Rattle.range_write.specs.Put.{Put}
 use Rattle.range_write.proofs.Pieces.{put-here, put-none, put-same, put-length, one-room, two-room, three-room, all-put, all-length}
 use Rattle.subtract_from.specs.Found.{partIn, partBytes, partCount, partsIn}
 
--- ---- joint_size and put_joint
+-- ---- part_size and put_part
 key-short : (k : Kind) (x : Key) → length (boundKey (boundOf k x)) ≤ length x
 key-short Unbounded x = omega arith
 key-short Included x = omega arith
@@ -45,39 +43,12 @@ side-short : (side : Side) (a b : List ℕ) → length a ≤ 65536 → length b 
 side-short First a b i j = i
 side-short Second a b i j = j
 
-module _ (a b : List ℕ) where
-  pub start-there : (j : JointSpan) → JointInside a b j → SuppliedInside a b (j .start)
-  start-there j i = i .start
+pub key-small : (a b : List ℕ) (x : Supplied) {k : Key} → k ≡ boundKey (suppliedBound a b x) → length a ≤ 65536 → length b ≤ 65536 → length k ≤ 65536
+key-small a b x {k} q i j =
+    let s = of (x .side) a b in
+    let n = key-short (x .bound .kind) (take (x .bound .len) (drop (x .bound .at) s)) in
+    omega (arith, ap length q, n, slice-short (x .bound .len) (x .bound .at) s, side-short (x .side) a b i j)
 
-  pub end-there : (j : JointSpan) → JointInside a b j → SuppliedInside a b (j .end)
-  end-there j i = i .end
-
-  pub key-small : (x : Supplied) {k : Key} → k ≡ boundKey (suppliedBound a b x) → length a ≤ 65536 → length b ≤ 65536 → length k ≤ 65536
-  key-small x {k} q i j =
-      let s = of (x .side) a b in
-      let n = key-short (x .bound .kind) (take (x .bound .len) (drop (x .bound .at) s)) in
-      omega (arith, ap length q, n, slice-short (x .bound .len) (x .bound .at) s, side-short (x .side) a b i j)
-
-  module _ (j : JointSpan) {s e : Key} (p : s ≡ boundKey (suppliedBound a b (j .start))) (q : e ≡ boundKey (suppliedBound a b (j .end))) where
-    bytes-are : writeRange (rangeOf (j .start .bound .kind) s (j .end .bound .kind) e) ≡ writeRange (joint.range (jointIn a b j))
-    bytes-are = rw (supplied-bound a b (j .start) refl p, supplied-bound a b (j .end) refl q)
-
-    pub size-is : {n : ℕ} → n ≡ length (writeRange (rangeOf (j .start .bound .kind) s (j .end .bound .kind) e)) → n ≡ length (writeRange (joint.range (jointIn a b j)))
-    size-is h = h ∙ ap length bytes-are
-
-    pub joint-room : (d : List ℕ) (to : ℕ) → to + length (writeRange (joint.range (jointIn a b j))) ≤ length d → to + length (writeRange (rangeOf (j .start .bound .kind) s (j .end .bound .kind) e)) ≤ length d
-    joint-room d to h = rw bytes-are h
-
-    module _ (d : List ℕ) (to : ℕ) {f : List ℕ} {past : ℕ} (u : Put d to (writeRange (rangeOf (j .start .bound .kind) s (j .end .bound .kind) e)) f past) where
-      pub joint-put : Put d to (writeRange (joint.range (jointIn a b j))) f past
-      joint-put = put-same u bytes-are
-
-      pub joint-same : to + length (writeRange (joint.range (jointIn a b j))) ≤ length d → length f ≡ length d
-      joint-same h = put-length u (joint-room d to h)
-
-pub ruleset joint-exits = (start-there, end-there, key-small, size-is, joint-room, joint-put, joint-same)
-
--- ---- part_size and put_part
 module _ (a b : List ℕ) {m : Met} where
   pub no-size : m ≡ Nothing → 0 ≡ length (partBytes (partIn a b m))
   no-size e = rw e
@@ -85,27 +56,33 @@ module _ (a b : List ℕ) {m : Met} where
   pub no-part : (d : List ℕ) (to : ℕ) → m ≡ Nothing → Put d to (partBytes (partIn a b m)) d to
   no-part d to e = put-same (put-none d to) (rw e)
 
-  module _ {j : JointSpan} (e : m ≡ At j) where
-    part-is : partBytes (partIn a b m) ≡ writeRange (joint.range (jointIn a b j))
-    part-is = rw e
+  module _ {j : JointSpan} (w : m ≡ At j) where
+    pub start-there : MetInside a b m → SuppliedInside a b (j .start)
+    start-there i = (rw w at i) .start
 
-    pub joint-there : MetInside a b m → JointInside a b j
-    joint-there i = rw e at i
+    pub end-there : MetInside a b m → SuppliedInside a b (j .end)
+    end-there i = (rw w at i) .end
 
-    pub part-size-is : {n : ℕ} → n ≡ length (writeRange (joint.range (jointIn a b j))) → n ≡ length (partBytes (partIn a b m))
-    part-size-is h = h ∙ sym (ap length part-is)
+    module _ {s e : Key} (p : s ≡ boundKey (suppliedBound a b (j .start))) (q : e ≡ boundKey (suppliedBound a b (j .end))) where
+      bytes-are : writeRange (rangeOf (j .start .bound .kind) s (j .end .bound .kind) e) ≡ partBytes (partIn a b m)
+      bytes-are = rw (w, supplied-bound a b (j .start) refl p, supplied-bound a b (j .end) refl q)
 
-    pub part-room : (d : List ℕ) (to : ℕ) → to + length (partBytes (partIn a b m)) ≤ length d → to + length (writeRange (joint.range (jointIn a b j))) ≤ length d
-    part-room d to h = rw (← part-is) h
+      pub size-is : {n : ℕ} → n ≡ length (writeRange (rangeOf (j .start .bound .kind) s (j .end .bound .kind) e)) → n ≡ length (partBytes (partIn a b m))
+      size-is h = h ∙ ap length bytes-are
 
-    module _ (d : List ℕ) (to : ℕ) {f : List ℕ} {past : ℕ} (u : Put d to (writeRange (joint.range (jointIn a b j))) f past) where
-      pub part-put : Put d to (partBytes (partIn a b m)) f past
-      part-put = put-same u (sym part-is)
+      pub part-room : (d : List ℕ) (to : ℕ) → to + length (partBytes (partIn a b m)) ≤ length d → to + length (writeRange (rangeOf (j .start .bound .kind) s (j .end .bound .kind) e)) ≤ length d
+      part-room d to h = rw bytes-are h
 
-      pub part-same : to + length (partBytes (partIn a b m)) ≤ length d → length f ≡ length d
-      part-same h = put-length u (part-room d to h)
+      module _ (d : List ℕ) (to : ℕ) {f : List ℕ} {past : ℕ} (u : Put d to (writeRange (rangeOf (j .start .bound .kind) s (j .end .bound .kind) e)) f past) where
+        pub part-put : Put d to (partBytes (partIn a b m)) f past
+        part-put = put-same u bytes-are
 
-pub ruleset part-puts = (no-size, no-part, joint-there, part-size-is, part-room, part-put, part-same)
+        pub part-same : to + length (partBytes (partIn a b m)) ≤ length d → length f ≡ length d
+        part-same h = put-length u (part-room d to h)
+
+pub ruleset size-exits = (no-size, start-there, end-there, key-small, size-is)
+
+pub ruleset put-exits = (no-part, start-there, end-there, part-room, part-put, part-same)
 
 -- ---- put_parts: the count, and the parts
 pub parts-are : (a b : List ℕ) (m n : Met) → plan .write (partsIn a b m n) ≡ writeNumber 1 (partCount m + partCount n) ++ (partBytes (partIn a b m) ++ partBytes (partIn a b n))

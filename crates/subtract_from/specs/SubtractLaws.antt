@@ -14,8 +14,9 @@ use Rattle.format.specs.Range.{readRange, writeRange}
 use Rattle.format.specs.Whole.{whole}
 use Rattle.records.specs.Values.{Plan}
 use Rattle.records.specs.Layouts.{plan}
+use Rattle.manifest.specs.Checks.{isExcluded}
 use Rattle.incremental_progress.specs.Intervals.{subtractFrom, bit, times}
-use Rattle.subtract_from.specs.SubtractCalls.{fromPlannedRange, halfOpen, subtractFromOutcome}
+use Rattle.subtract_from.specs.SubtractCalls.{fromPlannedRange, halfOpen, subtracted, subtractFromOutcome}
 
 -- an interval that passes the checks 4 and 10
 pub record IsInterval (d : Range) : Type 0 where
@@ -42,7 +43,15 @@ PartsAscend = (d r : Range) → IsInterval d → Pairwise (λ p q. endCut (p .en
 abbrev pub PartsPass : Type 0
 PartsPass = (d r : Range) → All (λ p. nonEmpty p ≡ true) (less d r)
 
+-- where the range starts included or unbounded, each of them does: a visible range of a view stays one
+abbrev pub NoPartStartsExcluded : Type 0
+NoPartStartsExcluded = (d r : Range) → isExcluded (r .start) ≡ false → All (λ p. isExcluded (p .start) ≡ false) (less d r)
+
 -- ---- one interval after another
+-- each part may be given to the call with another interval
+abbrev pub PartsAreTakenAgain : Type 0
+PartsAreTakenAgain = (d e r : Range) → IsInterval e → All (λ p. subtracted e p ≡ answer (less e p)) (less d r)
+
 -- A lesser one with the same start, subtracted first, changes nothing, bound for bound.
 abbrev pub LesserIsAbsorbed : Type 0
 LesserIsAbsorbed =

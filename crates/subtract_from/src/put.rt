@@ -1,72 +1,58 @@
 // Parts that stand in two slices, measured and written as a plan into a lent buffer.
 use base::Written;
-use format::span::JointSpan;
 use format::span::Met;
 use format::span::supplied_key;
 ghost use mathlib.Core.Path.{_≡_};
 ghost use Prim.Native.Nat.{_≤_, _+_};
 ghost use lib.ListN.{length};
 ghost use Rattle.base.specs.Outcome.{over, lent, reported, writtenTo};
-ghost use Rattle.format.specs.Joint as joint;
-ghost use Rattle.format.specs.Range.{writeRange};
-ghost use Rattle.format.specs.Span.{JointInside, jointIn, MetInside};
+ghost use Rattle.format.specs.Span.{MetInside};
 ghost use Rattle.records.specs.Layouts.{plan};
 ghost use Rattle.range_write.specs.Put.{Put};
 ghost use Rattle.subtract_from.specs.Found.{partIn, partBytes, partCount, partsIn};
 
-// How many bytes a range takes.
-fn joint_size<'a>(a: &'a [u8], b: &'a [u8], j: JointSpan) -> usize
-    requires { ⌜ JointInside (now a) (now b) j ⌝ ∗ ⌜ length (now a) ≤ 65536 ⌝ ∗ ⌜ length (now b) ≤ 65536 ⌝ }
-    ensures { λ r. ⌜ (r ≡ length (writeRange (joint.range (jointIn (now (a .entry)) (now (b .entry)) j)))) × (r ≤ 131077) ⌝ }
-{
-    let start = j.start;
-    let end = j.end;
-    let s = start.bound;
-    let e = end.bound;
-    let ks = s.kind;
-    let ke = e.kind;
-    range_write::range_size(ks, supplied_key(a, b, start), ke, supplied_key(a, b, end))
-}
-
-// Puts it, and answers the place past it.
-fn put_joint<'a>(a: &'a [u8], b: &'a [u8], j: JointSpan, out: &mut [u8], to: usize) -> usize
-    requires { ⌜ JointInside (now a) (now b) j ⌝ ∗ ⌜ to + length (writeRange (joint.range (jointIn (now a) (now b) j))) ≤ length (now out) ⌝ }
-    ensures { λ r. ⌜ Put (now (out .entry)) to (writeRange (joint.range (jointIn (now (a .entry)) (now (b .entry)) j))) (now (out .exit)) r ⌝ }
-{
-    let start = j.start;
-    let end = j.end;
-    let s = start.bound;
-    let e = end.bound;
-    let ks = s.kind;
-    let ke = e.kind;
-    range_write::put_range(
-        ks,
-        supplied_key(a, b, start),
-        ke,
-        supplied_key(a, b, end),
-        out,
-        to,
-    )
-}
-
-// The same of a part, if there is one.
+// How many bytes a part takes, if there is one.
 fn part_size<'a>(a: &'a [u8], b: &'a [u8], m: Met) -> usize
     requires { ⌜ MetInside (now a) (now b) m ⌝ ∗ ⌜ length (now a) ≤ 65536 ⌝ ∗ ⌜ length (now b) ≤ 65536 ⌝ }
     ensures { λ r. ⌜ (r ≡ length (partBytes (partIn (now (a .entry)) (now (b .entry)) m))) × (r ≤ 131077) ⌝ }
 {
     match m {
         Met::Nothing => 0,
-        Met::At(j) => joint_size(a, b, j),
+        Met::At(j) => {
+            let start = j.start;
+            let end = j.end;
+            let s = start.bound;
+            let e = end.bound;
+            let ks = s.kind;
+            let ke = e.kind;
+            range_write::range_size(ks, supplied_key(a, b, start), ke, supplied_key(a, b, end))
+        }
     }
 }
 
+// Puts it, and answers the place past it.
 fn put_part<'a>(a: &'a [u8], b: &'a [u8], m: Met, out: &mut [u8], to: usize) -> usize
     requires { ⌜ MetInside (now a) (now b) m ⌝ ∗ ⌜ to + length (partBytes (partIn (now a) (now b) m)) ≤ length (now out) ⌝ }
     ensures { λ r. ⌜ Put (now (out .entry)) to (partBytes (partIn (now (a .entry)) (now (b .entry)) m)) (now (out .exit)) r ⌝ }
 {
     match m {
         Met::Nothing => to,
-        Met::At(j) => put_joint(a, b, j, out, to),
+        Met::At(j) => {
+            let start = j.start;
+            let end = j.end;
+            let s = start.bound;
+            let e = end.bound;
+            let ks = s.kind;
+            let ke = e.kind;
+            range_write::put_range(
+                ks,
+                supplied_key(a, b, start),
+                ke,
+                supplied_key(a, b, end),
+                out,
+                to,
+            )
+        }
     }
 }
 

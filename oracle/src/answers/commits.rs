@@ -192,7 +192,7 @@ pub fn new_runs(
 }
 
 /// The arguments of a commit.
-#[derive(Clone, Debug, PartialEq, Eq, Hash)]
+#[derive(Clone, Debug, Default, PartialEq, Eq, Hash)]
 pub struct Case {
     pub image: Vec<u8>,
     pub job: Vec<u8>,

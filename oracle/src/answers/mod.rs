@@ -5,6 +5,7 @@ pub mod lookups;
 pub mod paper;
 pub mod plain;
 pub mod plans;
+pub mod progress;
 pub mod ranges;
 pub mod sizes;
 pub mod steps;

@@ -11,11 +11,15 @@
 //!   repeating the one so far (y) before it;
 //! - 1 to 3: a call, in the order of `answers::plans`. x is the setting (anchors a table, or parts), y the
 //!   data end offset of 1 or the least range bytes of 2, 0 for 3. What follows is the length of the lent
-//!   buffer, 8 bytes.
+//!   buffer, 8 bytes;
+//! - 10 and 11: a call on durable intervals, the numbers of `answers::progress`. x and y are 0, and the length
+//!   of the lent buffer follows too.
 use oracle::answers::plans::{value, Case, Value, PLAN_SUBCOMPACTION_RANGES, SELECT_BOUNDARIES};
+use oracle::answers::progress;
 use oracle::checks::{Checked, BUFFER_CEILING};
 use oracle::inputs::plans as inputs;
 use oracle::inputs::plans::{Inputs, Rooms, Takes};
+use oracle::inputs::progress as intervals;
 use oracle::inputs::{anchors, plan, Chance};
 use oracle::records::{arguments, pieces, record, Piece};
 use std::collections::{BTreeMap, HashMap, HashSet};
@@ -133,6 +137,64 @@ impl<W: Write> Takes for Output<W> {
     }
 }
 
+/// Those on durable intervals; in records they have no settings.
+impl<W: Write> intervals::Takes for Output<W> {
+    fn take(&mut self, case: &progress::Case, asked: Rooms) {
+        let known = progress::value(case).map(|ranges| plan(&ranges));
+        let case = Case {
+            call: case.call,
+            first: case.first.clone(),
+            second: case.second.clone(),
+            ..Case::default()
+        };
+        for room in self.rooms(&known, asked) {
+            self.put(&case, &known, room);
+        }
+    }
+}
+
+/// One of the parts 1 to 10.
+fn put_plans(part: u64, count: usize, made: &mut Inputs) {
+    match part {
+        1 => inputs::from_the_papers(made),
+        2 => inputs::damage(made),
+        3 => inputs::faults_of_anchors(made),
+        4 => inputs::faults_of_indexes(made),
+        5 => inputs::faults_of_images(made),
+        6 => inputs::ceilings(made),
+        7 => inputs::random_anchors(6 * count, made),
+        8 => inputs::random_indexes(count, made),
+        9 => inputs::random_images(3 * count, made),
+        _ => {
+            inputs::long_anchors(count / 40, made);
+            inputs::wide_images(count / 40, made);
+            inputs::near_totals(count / 2, made);
+            inputs::near_most_sampled(count / 80, made);
+            inputs::long_plans(count / 80, made);
+        }
+    }
+}
+
+/// One of the parts from 11 on.
+fn put_intervals(part: u64, count: usize, made: &mut intervals::Inputs) {
+    match part {
+        11 => {
+            intervals::few_jobs(made);
+            intervals::every_job(made);
+            intervals::jobs_of_commits(made);
+            intervals::random_jobs(3 * count, made);
+        }
+        _ => {
+            intervals::subtractions_from_the_papers(made);
+            intervals::damaged_subtractions(made);
+            intervals::faults_of_subtractions(made);
+            intervals::long_subtractions(made);
+            intervals::some_subtractions(made);
+            intervals::random_subtractions(3 * count, made);
+        }
+    }
+}
+
 fn write(small: bool, seed: u64, count: usize) {
     let mut out = Output {
         to: std::io::BufWriter::new(std::io::stdout().lock()),
@@ -146,36 +208,29 @@ fn write(small: bool, seed: u64, count: usize) {
         chance: Chance(seed),
     };
     let mut classes = HashMap::new();
-    for part in 1..=10 {
+    for part in 1..=12 {
         let before = (out.records(), out.bytes);
+        // Each part has its own numbers, so that a change in one leaves the others alone.
         let chance = seed.wrapping_mul(16).wrapping_add(part);
         out.chance = Chance(!chance);
-        let mut made = Inputs {
-            to: &mut out,
-            small,
-            // Each part has its own numbers, so that a change in one leaves the others alone.
-            chance: Chance(chance),
-            classes,
-        };
-        match part {
-            1 => inputs::from_the_papers(&mut made),
-            2 => inputs::damage(&mut made),
-            3 => inputs::faults_of_anchors(&mut made),
-            4 => inputs::faults_of_indexes(&mut made),
-            5 => inputs::faults_of_images(&mut made),
-            6 => inputs::ceilings(&mut made),
-            7 => inputs::random_anchors(6 * count, &mut made),
-            8 => inputs::random_indexes(count, &mut made),
-            9 => inputs::random_images(3 * count, &mut made),
-            _ => {
-                inputs::long_anchors(count / 40, &mut made);
-                inputs::wide_images(count / 40, &mut made);
-                inputs::near_totals(count / 2, &mut made);
-                inputs::near_most_sampled(count / 80, &mut made);
-                inputs::long_plans(count / 80, &mut made);
-            }
+        if part > 10 {
+            let mut made = intervals::Inputs {
+                to: &mut out,
+                small,
+                chance: Chance(chance),
+                classes: HashMap::new(),
+            };
+            put_intervals(part, count, &mut made);
+        } else {
+            let mut made = Inputs {
+                to: &mut out,
+                small,
+                chance: Chance(chance),
+                classes: std::mem::take(&mut classes),
+            };
+            put_plans(part, count, &mut made);
+            classes = made.classes;
         }
-        classes = made.classes;
         let (records, bytes) = (out.records() - before.0, out.bytes - before.1);
         eprintln!("part {part}: {records} records, {bytes} bytes");
     }

@@ -3,15 +3,19 @@ use super::{
     all_durable, check_4, check_5, check_6, check_7, descends, ends_before, least_outside, outputs,
     pass, read_image, read_job, runs_of, start_of, Checked,
 };
-use crate::{key_of, kind_of, Job, Part, Run};
+use crate::{key_of, kind_of, Job, Part, Range, Run};
 use std::collections::HashSet;
 
-fn check_10(job: &Job) -> Checked<()> {
-    for part in &job.parts {
-        if kind_of(&part.range.0) == 2 || kind_of(&part.range.1) == 1 {
-            return Err(10);
-        }
+/// Of one planned range: it starts included or unbounded, and ends excluded or unbounded.
+pub fn planned(range: &Range) -> Checked<()> {
+    if kind_of(&range.0) == 2 || kind_of(&range.1) == 1 {
+        return Err(10);
     }
+    Ok(())
+}
+
+pub fn check_10(job: &Job) -> Checked<()> {
+    job.parts.iter().try_for_each(|part| planned(&part.range))?;
     for pair in job.parts.windows(2) {
         match (key_of(&pair[0].range.1), key_of(&pair[1].range.0)) {
             (Some(end), Some(start)) if end <= start => {}
@@ -22,7 +26,7 @@ fn check_10(job: &Job) -> Checked<()> {
 }
 
 /// Of a part that passes check 10.
-fn check_11(part: &Part) -> Checked<()> {
+pub fn check_11(part: &Part) -> Checked<()> {
     let mut least = key_of(&part.range.0);
     for table in &part.outputs {
         let last = table.last.as_ref().ok_or(11)?;

@@ -8,6 +8,7 @@ mod jobs;
 mod lists;
 mod lookups;
 mod plans;
+mod progress;
 mod ranges;
 mod reader;
 
@@ -19,6 +20,7 @@ pub use jobs::*;
 pub use lists::*;
 pub use lookups::*;
 pub use plans::*;
+pub use progress::*;
 pub use ranges::*;
 pub use reader::*;
 

@@ -6,6 +6,7 @@ pub mod images;
 mod keys;
 pub mod lookups;
 pub mod plans;
+pub mod progress;
 pub mod ranges;
 pub mod sizes;
 mod tables;

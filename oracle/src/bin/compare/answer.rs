@@ -5,6 +5,7 @@ use oracle::answers::commits::{self, Deeds};
 use oracle::answers::images::{at, effective, listing};
 use oracle::answers::lookups::{self, Joint};
 use oracle::answers::plans;
+use oracle::answers::progress;
 use oracle::answers::ranges::{value, Sided, Value};
 use oracle::checks::{check_image, key_places, read_range, Checked, PlacedRun, Stop};
 use oracle::inputs::{anchors, plan, range_image};
@@ -99,6 +100,9 @@ pub fn expected(question: &Question) -> Expected {
             Ok(wrote(bytes))
         }
         call if call.is_of_plans() => expected_plan(&plans::value(&question.plan_case()), question),
+        call if call.is_of_progress() => {
+            expected_ranges(&progress::value(&question.progress_case()), question)
+        }
         call if call > Call::Commit => {
             let known = lookups::value(&question.a, &question.asked());
             expected_lookup(&known, question)
@@ -200,6 +204,12 @@ pub fn expected_plan(known: &Checked<plans::Value>, question: &Question) -> Expe
         plans::Value::Plan(ranges) => plan(ranges),
     };
     fits(plain(bytes), question.room)
+}
+
+/// Of a call on durable intervals whose answer with room enough is known.
+pub fn expected_ranges(known: &Checked<Vec<Range>>, question: &Question) -> Expected {
+    let ranges = known.as_ref().map_err(|stop| *stop)?;
+    fits(plain(plan(ranges)), question.room)
 }
 
 /// Of a call on an image that was checked.

@@ -2,6 +2,7 @@
 use oracle::answers::commits::Case;
 use oracle::answers::lookups::{Asked, VISIBLE_FRACTION};
 use oracle::answers::plans;
+use oracle::answers::progress;
 use oracle::answers::ranges::{self, Input};
 
 #[derive(Clone, Copy, Debug, PartialEq, Eq, PartialOrd, Ord)]
@@ -37,10 +38,12 @@ pub enum Call {
     SampleAnchors,
     SelectBoundaries,
     PlanSubcompactionRanges,
+    FromCompaction,
+    SubtractFrom,
 }
 
 impl Call {
-    pub const ALL: [Call; 31] = [
+    pub const ALL: [Call; 33] = [
         Call::Compare,
         Call::CmpBound,
         Call::NonEmpty,
@@ -72,6 +75,8 @@ impl Call {
         Call::SampleAnchors,
         Call::SelectBoundaries,
         Call::PlanSubcompactionRanges,
+        Call::FromCompaction,
+        Call::SubtractFrom,
     ];
 
     pub fn name(self) -> &'static str {
@@ -107,6 +112,8 @@ impl Call {
             Call::SampleAnchors => "sample_anchors",
             Call::SelectBoundaries => "select_boundaries",
             Call::PlanSubcompactionRanges => "plan_subcompaction_ranges",
+            Call::FromCompaction => "from_compaction",
+            Call::SubtractFrom => "subtract_from",
         }
     }
 
@@ -128,7 +135,7 @@ impl Call {
         if self.is_of_sizes() {
             return Some(VISIBLE_FRACTION + (self as u8 - Call::VisibleFraction as u8));
         }
-        let is_lookup = self > Call::Commit && !self.is_of_plans();
+        let is_lookup = (Call::PartitionPoint..Call::SampleAnchors).contains(&self);
         is_lookup.then(|| self as u8 - Call::Commit as u8)
     }
 
@@ -139,7 +146,12 @@ impl Call {
 
     /// Whether it samples or plans.
     pub fn is_of_plans(self) -> bool {
-        self >= Call::SampleAnchors
+        (Call::SampleAnchors..=Call::PlanSubcompactionRanges).contains(&self)
+    }
+
+    /// Whether it answers durable intervals, or what one leaves of a range.
+    pub fn is_of_progress(self) -> bool {
+        self >= Call::FromCompaction
     }
 
     /// A call that samples or plans, by its number from 1 on.
@@ -157,7 +169,7 @@ impl Call {
         match self {
             Compare | CmpBound | NonEmpty | Contains | CheckImage => false,
             CompactedIntersection | CalculateViewRange => true,
-            other => other <= Commit || other.is_of_plans(),
+            other => other <= Commit || other >= SampleAnchors,
         }
     }
 
@@ -187,6 +199,8 @@ impl Call {
             Call::SampleAnchors => &["index", "range"],
             Call::SelectBoundaries => &["anchors"],
             Call::PlanSubcompactionRanges => &["image", "indexes"],
+            Call::FromCompaction => &["job"],
+            Call::SubtractFrom => &["interval", "range"],
             call if call > Call::Commit => &["image", "range"],
             _ => &["a", "b"],
         }
@@ -264,6 +278,26 @@ impl Question {
             x: case.setting,
             y: case.number,
             ..Question::new(Call::of_plans(case.call), &case.first, &case.second)
+        }
+    }
+
+    /// A call on durable intervals.
+    pub fn progress(case: &progress::Case) -> Question {
+        let call = match case.call {
+            progress::FROM_COMPACTION => Call::FromCompaction,
+            _ => Call::SubtractFrom,
+        };
+        Question::new(call, &case.first, &case.second)
+    }
+
+    pub fn progress_case(&self) -> progress::Case {
+        progress::Case {
+            call: match self.call {
+                Call::FromCompaction => progress::FROM_COMPACTION,
+                _ => progress::SUBTRACT_FROM,
+            },
+            first: self.a.clone(),
+            second: self.b.clone(),
         }
     }
 

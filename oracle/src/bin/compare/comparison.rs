@@ -64,6 +64,8 @@ impl<'a> Comparison<'a> {
         }
         if question.call.is_of_plans() {
             self.tally.planned.push(self.lent.mark);
+        } else if question.call.is_of_progress() {
+            self.tally.progress.push(self.lent.mark);
         } else if question.call.is_of_sizes() {
             self.tally.sizes.push(self.lent.mark);
         } else if question.call.lookup().is_some() {

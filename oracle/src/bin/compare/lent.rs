@@ -234,6 +234,10 @@ impl Lent {
                 Call::PlanSubcompactionRanges => bilqarush_plan_subcompaction_ranges(
                     x as usize, a, a_len, b, b_len, out, room, written,
                 ),
+                Call::FromCompaction => bilqarush_from_compaction(a, a_len, out, room, written),
+                Call::SubtractFrom => {
+                    bilqarush_subtract_from(a, a_len, b, b_len, out, room, written)
+                }
             }
         };
     }

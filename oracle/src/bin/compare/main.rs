@@ -12,6 +12,7 @@ mod lent;
 mod lists;
 mod lookups;
 mod plans;
+mod progress;
 mod ranges;
 mod report;
 mod selftest;
@@ -34,6 +35,7 @@ fn compare(seed: u64, full: bool) -> ExitCode {
     lookups::add(&mut shards, full);
     sizes::add(&mut shards, full);
     plans::add(&mut shards, full);
+    progress::add(&mut shards, full);
     let (tally, difference) = shards.run(None, true);
     println!("seed {seed}, {}", if full { "full" } else { "quick" });
     tally.print();

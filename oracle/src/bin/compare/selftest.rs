@@ -8,7 +8,7 @@ use crate::lists::{committed_alone, list_fault};
 use crate::shards::Shards;
 use crate::shrink::smallest;
 use crate::wrong::{Kind, When, Wrong, KINDS};
-use crate::{commits, images, lookups, plans, ranges, sizes};
+use crate::{commits, images, lookups, plans, progress, ranges, sizes};
 use oracle::answers::commits::Case;
 use oracle::guarded;
 use std::panic::{catch_unwind, AssertUnwindSafe};
@@ -22,6 +22,7 @@ fn shards_of(call: Call, seed: u64) -> Shards {
         call if call.is_on_ranges() => ranges::add(&mut shards, false),
         call if call.is_of_sizes() => sizes::add(&mut shards, false),
         call if call.is_of_plans() => plans::add(&mut shards, false),
+        call if call.is_of_progress() => progress::add(&mut shards, false),
         call if call.lookup().is_some() => lookups::add(&mut shards, false),
         _ => images::add(&mut shards, false),
     }
@@ -82,6 +83,7 @@ fn single_inputs(seed: u64) -> Vec<(Call, bool)> {
         Call::PartitionPoint,
         Call::VisibleFraction,
         Call::SampleAnchors,
+        Call::FromCompaction,
     ] {
         let (tally, _) = shards_of(group, seed).run(None, false);
         found.extend(tally.picked.into_iter().map(|(call, mark)| {
@@ -121,7 +123,8 @@ pub fn run(seed: u64) -> bool {
         "each byte that a list leaves".into(),
     );
     // A view without keys has 60 bytes, a run's head 6. A commit needs a job besides. A block has 10
-    // bytes and its first key, an anchor too; a lookup needs a range besides.
+    // bytes and its first key, an anchor too; a lookup needs a range besides. A job without parts has 6 bytes, with a
+    // source 10.
     for (call, length, most) in [
         (Call::Compare, 3, 3),
         (Call::Contains, 4, 4),
@@ -137,6 +140,8 @@ pub fn run(seed: u64) -> bool {
         (Call::SampleAnchors, 23, 24),
         (Call::SelectBoundaries, 23, 24),
         (Call::PlanSubcompactionRanges, 68, 72),
+        (Call::FromCompaction, 15, 15),
+        (Call::SubtractFrom, 5, 6),
     ] {
         let wrong = Wrong {
             call,

@@ -56,6 +56,8 @@ fn smaller(question: &Question) -> Vec<Question> {
         call if call.is_in_indexes() => smaller_indexes(&question.a),
         Call::SampleAnchors => smaller_indexes(&question.a),
         Call::SelectBoundaries => smaller_anchors(&question.a),
+        Call::FromCompaction => smaller_jobs(&question.a),
+        Call::SubtractFrom => smaller_ranges(&question.a),
         call if call.is_on_ranges() => smaller_ranges(&question.a),
         _ => smaller_images(&question.a),
     };

@@ -15,6 +15,9 @@ pub struct Tally {
     pub sizes: Vec<u64>,
     /// The same of the calls that sample or plan.
     pub planned: Vec<u64>,
+    /// The same of the calls on durable intervals; of their answers how many have no range, one and several.
+    pub progress: Vec<u64>,
+    pub answered: [u64; 3],
     /// Marks of the plans that were answered, whatever the lent buffer; how many of them have several
     /// ranges, and how many have more bytes than an image may.
     pub plans: Vec<u64>,
@@ -64,6 +67,9 @@ impl Tally {
         self.views.append(&mut more.views);
         self.planned.append(&mut more.planned);
         self.plans.append(&mut more.plans);
+        self.progress.append(&mut more.progress);
+        let answered = self.answered.iter_mut().zip(more.answered);
+        answered.for_each(|(all, more)| *all += more);
         self.split += more.split;
         self.long += more.long;
         self.parts += more.parts;
@@ -115,6 +121,12 @@ impl Tally {
             "plans: {all} answered, {plans} of them distinct (whatever the lent buffer); {} have several \
              ranges, {} over 65,536 bytes",
             self.split, self.long
+        );
+        let (all, progress) = (self.progress.len(), distinct(&mut self.progress));
+        let [none, one, several] = self.answered;
+        println!(
+            "durable intervals: {all} inputs, {progress} of them distinct; {none} answers have no range, {one} \
+             one, {several} several"
         );
     }
 

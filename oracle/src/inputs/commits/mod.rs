@@ -15,7 +15,7 @@ pub use draws::{draws, most_pieces};
 pub use faults::pairs;
 pub use lists::{lists, random_list};
 pub use odd::odd;
-pub use random::random;
+pub use random::{random, random_job};
 
 use super::{image, run, view, write_job, Chance};
 use crate::answers::commits::{answer, new_runs, Case, Deeds, Supply};

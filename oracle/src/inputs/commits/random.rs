@@ -2,7 +2,7 @@
 use super::{Inputs, Model};
 use crate::answers::commits::{whole, Case};
 use crate::checks::{ends_before, BUFFER_CEILING, SIZE_CEILING};
-use crate::inputs::{before, from_to, small_keys, Chance};
+use crate::inputs::{before, from_to, small_keys, write_job, Chance};
 use crate::{key_of, Bound, Job, Key, Part, Range, Run, Table, View};
 use std::collections::HashSet;
 
@@ -362,4 +362,22 @@ pub fn random(count: usize, out: &mut Inputs) {
         vary(&mut case, chance);
         out.put(&case);
     }
+}
+
+/// The job of a random commit, seldom twisted or damaged.
+pub fn random_job(chance: &mut Chance, small: bool) -> Vec<u8> {
+    let tidy = chance.percent(40);
+    let mut model = random_model(chance, small, tidy);
+    for _ in 0..chance.below(4) {
+        if chance.percent(22) {
+            twist(&mut model, chance, small);
+        }
+    }
+    let mut case = Case {
+        job: write_job(&model.job).0,
+        ..Case::default()
+    };
+    // Image, supply and room are not looked at.
+    vary(&mut case, chance);
+    case.job
 }
