@@ -13,7 +13,7 @@ use borrow.Author.Tests.{ne-eqb}
 use Rattle.base.specs.Rows.{RowsHold, hold-none, hold-more}
 use Rattle.base.specs.Splice.{splice, spliced-length}
 use Rattle.key.specs.Order.{Key}
-use Rattle.comparable_range.specs.Range.{Range, boundOf, nonEmpty}
+use Rattle.comparable_range.specs.Range.{Range, rangeOf as rangeBy, nonEmpty}
 use Rattle.comparable_range.specs.Cut.{below, cutAtMost, startCut, endCut}
 use Rattle.comparable_range.specs.declared.Kind.{Kind}
 use Rattle.comparable_range.specs.declared.Kind.the-variants.{Unbounded, Included, Excluded}
@@ -30,17 +30,17 @@ use Rattle.records.specs.declared.parts.PartRead.{PartRead}
 use Rattle.records.specs.declared.parts.PartRead.the-variants.{At as HeadAt, Stop as HeadStop}
 use Rattle.records.proofs.Many.{Reading, begin, stopped, onward, all-read}
 use Rattle.records.proofs.PartExits.{part-is}
-use Rattle.manifest.specs.Checks.{all, isExcluded}
+use Rattle.manifest.specs.Checks.{all}
 use Rattle.manifest.specs.Faults.{faultOf, least, planned}
 use Rattle.manifest.proofs.Steps.{all-more, parts-none, parts-more}
-use Rattle.incremental_progress.specs.Checks.{isIncluded, plannedFrom, outputsInside}
+use Rattle.incremental_progress.specs.Checks.{halfOpen, plannedFrom, outputsInside}
 use Rattle.incremental_progress.specs.Parts.{durable, openKey}
 use Rattle.commit_rows.specs.Numbers.{partNumbers}
 use Rattle.commit_rows.specs.declared.parts.PartSpan.{PartSpan}
 use Rattle.commit_rows.proofs.RowExits.{part-back}
 use Rattle.commit_durable.specs.Faults.{plannedAfter}
 use Rattle.commit_durable.specs.Tables.{PartIs}
-use Rattle.commit_durable.specs.Answers.{lastIn, LastInside, OutputsPassed, RowMade, halfOpen, cutOf, partMore, partFault, PartGot, PartPassed, PartsTold, PartsPassed}
+use Rattle.commit_durable.specs.Answers.{lastIn, LastInside, OutputsPassed, RowMade, halfOpenKinds, cutOf, partMore, partFault, PartGot, PartPassed, PartsTold, PartsPassed}
 use Rattle.commit_durable.specs.declared.outputs.Outputs.{Outputs}
 use Rattle.commit_durable.specs.declared.outputs.OutputsRead.{OutputsRead}
 use Rattle.commit_durable.specs.declared.outputs.OutputsRead.the-variants.{At as OutputsAt, Stop as OutputsStop}
@@ -63,7 +63,7 @@ module _ (s : List ℕ) (r : RangeSpan) {t : Bool} (h : t ≡ nonEmpty (rangeIn 
 pub ruleset planned-exits = (planned-passes, planned-fails)
 
 -- ---- planned_after
-half-open : (ks ke : Kind) (x y : Key) → halfOpen ks ke ≡ (not (isExcluded (boundOf ks x)) && not (isIncluded (boundOf ke y)))
+pub half-open : (ks ke : Kind) (x y : Key) → halfOpenKinds ks ke ≡ halfOpen (rangeBy ks x ke y)
 half-open Excluded ke x y = refl
 half-open Unbounded Unbounded x y = refl
 half-open Unbounded Included x y = refl
@@ -72,7 +72,7 @@ half-open Included Unbounded x y = refl
 half-open Included Included x y = refl
 half-open Included Excluded x y = refl
 
-module _ (s : List ℕ) (first : Bool) (b i j : BoundSpan) {h : Bool} (e : h ≡ halfOpen (i .kind) (j .kind)) where
+module _ (s : List ℕ) (first : Bool) (b i j : BoundSpan) {h : Bool} (e : h ≡ halfOpenKinds (i .kind) (j .kind)) where
   opened : plannedAfter (cutOf first (boundIn s b)) (rangeIn s i j) ≡ (h && cutAtMost (cutOf first (boundIn s b)) (startCut (boundIn s i)))
   unfolding plannedAfter
   opened = rw (e, half-open (i .kind) (j .kind) (take (i .len) (drop (i .at) s)) (take (j .len) (drop (j .at) s))) (simp and-assoc)

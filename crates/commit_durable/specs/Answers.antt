@@ -1,7 +1,7 @@
 -- What the answers of the one pass over a job say of its bytes s.
 use Prim.Native.Nat.{ℕ, _+_, _*_, _≤_}
 use mathlib.Core.Path.{_≡_}
-use mathlib.Core.Bool.{Bool, true, not, _&&_}
+use mathlib.Core.Bool.{Bool, true, _&&_}
 use mathlib.Core.Option.{Option, none, some}
 use mathlib.Core.List.{List, []}
 use lib.ListN.{length, drop}
@@ -12,7 +12,7 @@ use Rattle.base.specs.Outcome as outcome
 use Rattle.base.specs.Rows.{RowsHold}
 use Rattle.base.specs.Splice.{splice}
 use Rattle.key.specs.Order.{Key}
-use Rattle.comparable_range.specs.Range.{Bound, Range, boundOf, nonEmpty}
+use Rattle.comparable_range.specs.Range.{Bound, Range, rangeOf, nonEmpty}
 use Rattle.comparable_range.specs.Factors.{isKeyed}
 use Rattle.comparable_range.specs.Cut.{Cut, below, startCut, endCut}
 use Rattle.comparable_range.specs.declared.Kind.{Kind}
@@ -25,11 +25,11 @@ use Rattle.records.specs.Values.{Table, Part}
 use Rattle.records.specs.Layouts.{job}
 use Rattle.records.specs.Spans.{ifSo, keyIn, tableIn, idsIn}
 use Rattle.records.specs.declared.tables.TableSpan.{TableSpan}
-use Rattle.manifest.specs.Checks.{all, isExcluded, jobChecks}
+use Rattle.manifest.specs.Checks.{all, jobChecks}
 use Rattle.manifest.specs.Faults.{faultOf, least, tableChecks, tablesChecks, partsChecks, planned}
 use Rattle.incremental_progress.specs.Intervals.{Interval, toRange}
 use Rattle.incremental_progress.specs.Parts.{keyOf, lastWritten, upToKey}
-use Rattle.incremental_progress.specs.Checks.{isIncluded, plannedFrom, outputsFrom, outputsInside}
+use Rattle.incremental_progress.specs.Checks.{halfOpen, plannedFrom, outputsFrom, outputsInside}
 use Rattle.commit_rows.specs.Numbers.{partNumbers}
 use Rattle.commit_rows.specs.declared.parts.PartSpan.{PartSpan}
 use Rattle.commit_durable.specs.Faults.{plannedAfter, outputBetween, partsFault}
@@ -105,9 +105,9 @@ pub record RowMade (s : List ℕ) (r : RangeSpan) (completed : Bool) (outputs fi
   pub first-is : h .first ≡ first
 
 -- ---- one part
--- the kinds of a planned range: it does not start excluded and does not end included
-abbrev pub halfOpen : Kind → Kind → Bool
-halfOpen ks ke = not (isExcluded (boundOf ks [])) && not (isIncluded (boundOf ke []))
+-- `halfOpen` by the kinds of the two bounds
+abbrev pub halfOpenKinds : Kind → Kind → Bool
+halfOpenKinds ks ke = halfOpen (rangeOf ks [] ke [])
 
 -- where the next part may begin: after the end of the one before, if there is one
 abbrev pub cutOf : Bool → Bound → Cut

@@ -1,17 +1,17 @@
 -- The checks 10 and 11 of a job's parts, as the code finds them: the number of the first that fails.
 use Prim.Native.Nat.{ℕ}
-use mathlib.Core.Bool.{Bool, not, _&&_}
+use mathlib.Core.Bool.{Bool, _&&_}
 use mathlib.Core.List.{List}
 use Rattle.base.specs.Pick.{pick}
 use Rattle.comparable_range.specs.Range.{Range}
 use Rattle.comparable_range.specs.Cut.{Cut, below, before, cutAtMost, startCut}
 use Rattle.records.specs.Values.{Table, Part}
-use Rattle.manifest.specs.Checks.{all, isExcluded}
-use Rattle.incremental_progress.specs.Checks.{isIncluded, plannedFrom, endsBy, outputsInside}
+use Rattle.manifest.specs.Checks.{all}
+use Rattle.incremental_progress.specs.Checks.{halfOpen, plannedFrom, endsBy, outputsInside}
 
 -- ---- 10 of one part, after a cut
 unfoldable pub plannedAfter : Cut → Range → Bool
-plannedAfter c r = not (isExcluded (r .start)) && not (isIncluded (r .end)) && cutAtMost c (startCut (r .start))
+plannedAfter c r = halfOpen r && cutAtMost c (startCut (r .start))
 
 -- ---- 11 of one output, between two cuts
 unfoldable pub outputBetween : Cut → Cut → Table → Bool

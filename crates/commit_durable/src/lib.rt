@@ -12,5 +12,6 @@ pub use gaps::gaps_of;
 pub use jobs::JobHead;
 pub use jobs::JobJudged;
 pub use jobs::job_read;
+pub use parts::half_open;
 pub use sources::is_source;
 pub use tables::part_at;

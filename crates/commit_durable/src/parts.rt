@@ -20,7 +20,7 @@ ghost use Rattle.records.specs.Form.{readMany};
 ghost use Rattle.records.specs.Layouts.{part};
 ghost use Rattle.manifest.specs.Faults.{faultOf, planned};
 ghost use Rattle.commit_durable.specs.Faults.{plannedAfter};
-ghost use Rattle.commit_durable.specs.Answers.{halfOpen, cutOf, partMore, PartPassed, PartsPassed};
+ghost use Rattle.commit_durable.specs.Answers.{halfOpenKinds, cutOf, partMore, PartPassed, PartsPassed};
 
 // Check 4 of a planned range: 4 if it fails, or 8.
 fn planned_fault(job: &[u8], r: RangeSpan) -> u8
@@ -34,8 +34,8 @@ fn planned_fault(job: &[u8], r: RangeSpan) -> u8
 }
 
 // Whether a planned range does not start excluded and does not end included.
-fn half_open(start: Kind, end: Kind) -> bool
-    ensures { λ r. ⌜ r ≡ halfOpen start end ⌝ }
+pub fn half_open(start: Kind, end: Kind) -> bool
+    ensures { λ r. ⌜ r ≡ halfOpenKinds start end ⌝ }
 {
     match start {
         Kind::Excluded => false,

@@ -33,13 +33,13 @@ use Rattle.incremental_progress.specs.Intervals.{partBefore, partFrom, subtract
 use Rattle.incremental_progress.specs.Parts.{lastWritten, isKey, upToKey, durable, intervals}
 use Rattle.incremental_progress.specs.Checks.{destinationIsSource, plannedFrom, plannedInOrder, outputsFrom, outputsInside, outputsInOrder}
 use Rattle.from_compaction.specs.ProgressCalls.{fromCompaction, progressed, progressMade, fromCompactionOutcome}
-use Rattle.subtract_from.specs.SubtractCalls.{halfOpen, subtracted, subtractedGiven, subtractFromOutcome}
+use Rattle.subtract_from.specs.SubtractCalls.{subtracted, subtractedGiven, subtractFromOutcome}
 use Rattle.format.specs.Given.{boundGiven}
 use Rattle.bilqarush.specs.Calls.{cmpBoundOutcome, nonEmptyOutcome, containsOutcome, fromPrefixOutcome}
 use Rattle.edges.specs.Edges.{edges, EdgesHold, NothingBetween}
 
 pub edges-hold : EdgesHold
-unfolding edges cmpCut cutAtMost outputsOf part job jobChecks intervals destinationIsSource plannedFrom plannedInOrder outputsFrom outputsInside outputsInOrder fromCompaction progressed progressMade fromCompactionOutcome halfOpen subtracted subtractedGiven subtractFromOutcome flatMap anchor anchors plan total anchorsChecks insert sort target unsplit prepared boundariesFrom boundaries chosen rangesFrom selectBoundaries anchorsGiven selectBoundariesOutcome readIf writeIf flagOf countOf viewCountOf table view run image effective all visiblePasses keysInOrder tablePasses has distinct sizePasses imageChecks imageGiven at viewAt viewGiven estimateVisibleSizeOutcome visibleFraction estimateVisibleSize scale withBytes keyFraction commonPrefixLen rangeLen lengthsFraction sameRange rangesFraction roundHalfAway visibleSize add sum sub neg mul div lt eq round size span climb units odd ofInt toUnsigned ofBits ofFields trailingZeros cmpRange cmpNumber cmpKey cmpBound boundsPass startHolds endHolds holds keylessBounds digits readNumber writeNumber readBytes readKey writeKey headOf readBound writeBound readRange writeRange whole keyGiven keptOf raised nextPrefix fromPrefix boundGiven cmpBoundOutcome nonEmptyOutcome containsOutcome fromPrefixOutcome startSide endSide intersectSides partBefore partFrom subtractFrom lastWritten isKey upToKey durable readMany writeMany block index ascendFrom indexChecks partitionPoint startsWith firstPartitionIncludingKey firstPartitionIncludingOrAfterKey lastPartitionIncludingKey stepBack partitionsCoveringKey partitionsCoveringBounds partitionsCoveringRange askedChecks indexAndRange partitionsCoveringRangeOutcome
+unfolding edges cmpCut cutAtMost outputsOf part job jobChecks intervals destinationIsSource plannedFrom plannedInOrder outputsFrom outputsInside outputsInOrder fromCompaction progressed progressMade fromCompactionOutcome subtracted subtractedGiven subtractFromOutcome flatMap anchor anchors plan total anchorsChecks insert sort target unsplit prepared boundariesFrom boundaries chosen rangesFrom selectBoundaries anchorsGiven selectBoundariesOutcome readIf writeIf flagOf countOf viewCountOf table view run image effective all visiblePasses keysInOrder tablePasses has distinct sizePasses imageChecks imageGiven at viewAt viewGiven estimateVisibleSizeOutcome visibleFraction estimateVisibleSize scale withBytes keyFraction commonPrefixLen rangeLen lengthsFraction sameRange rangesFraction roundHalfAway visibleSize add sum sub neg mul div lt eq round size span climb units odd ofInt toUnsigned ofBits ofFields trailingZeros cmpRange cmpNumber cmpKey cmpBound boundsPass startHolds endHolds holds keylessBounds digits readNumber writeNumber readBytes readKey writeKey headOf readBound writeBound readRange writeRange whole keyGiven keptOf raised nextPrefix fromPrefix boundGiven cmpBoundOutcome nonEmptyOutcome containsOutcome fromPrefixOutcome startSide endSide intersectSides partBefore partFrom subtractFrom lastWritten isKey upToKey durable readMany writeMany block index ascendFrom indexChecks partitionPoint startsWith firstPartitionIncludingKey firstPartitionIncludingOrAfterKey lastPartitionIncludingKey stepBack partitionsCoveringKey partitionsCoveringBounds partitionsCoveringRange askedChecks indexAndRange partitionsCoveringRangeOutcome
 edges-hold = refl
 
 pub nothing-between : NothingBetween

@@ -28,12 +28,13 @@ isIncluded unbounded = false
 isIncluded (included k) = true
 isIncluded (excluded k) = false
 
+abbrev pub halfOpen : Range → Bool
+halfOpen r = not (isExcluded (r .start)) && not (isIncluded (r .end))
+
 -- parts from a cut on; the cut below all keys stands before the first
 unfoldable pub plannedFrom : Cut → List Part → Bool
 plannedFrom c [] = true
-plannedFrom c (p ∷ ps) =
-    not (isExcluded (p .planned .start)) && not (isIncluded (p .planned .end)) && cutAtMost c (startCut (p .planned .start))
-    && plannedFrom (endCut (p .planned .end)) ps
+plannedFrom c (p ∷ ps) = halfOpen (p .planned) && cutAtMost c (startCut (p .planned .start)) && plannedFrom (endCut (p .planned .end)) ps
 
 unfoldable pub plannedInOrder : Job → Bool
 plannedInOrder j = plannedFrom below (j .parts)

@@ -18,8 +18,11 @@ keyOf unbounded = none
 keyOf (included k) = some k
 keyOf (excluded k) = some k
 
+abbrev pub fromPlannedRange : Range → Interval
+fromPlannedRange r = record { start = keyOf (r .start); end = keyOf (r .end) }
+
 abbrev pub plannedInterval : Part → Interval
-plannedInterval p = record { start = keyOf (p .planned .start); end = keyOf (p .planned .end) }
+plannedInterval p = fromPlannedRange (p .planned)
 
 -- ---- durable intervals
 -- the last key of the last output

@@ -18,7 +18,7 @@ use Rattle.incremental_progress.specs.Checks.{destinationIsSource, plannedFrom,
 use Rattle.incremental_progress.specs.Intervals.{partBefore, partFrom, subtractFrom}
 use Rattle.incremental_progress.specs.Parts.{lastWritten, isKey, upToKey, durable, intervals}
 use Rattle.from_compaction.specs.ProgressCalls.{fromCompaction, progressed, progressMade, fromCompactionOutcome}
-use Rattle.subtract_from.specs.SubtractCalls.{halfOpen, subtracted, subtractedGiven, subtractFromOutcome}
+use Rattle.subtract_from.specs.SubtractCalls.{subtracted, subtractedGiven, subtractFromOutcome}
 use Rattle.stop_lists.specs.Stops.{fromCompactionStops, subtractFromStops, Reached, no-more, reached}
 use Rattle.stop_lists.proofs.Crowded.{zeros}
 use Rattle.stop_lists.proofs.Refused.{padded, long, empty, every, aTable, jobWith, jobOf}
@@ -59,7 +59,7 @@ abbrev afterEmpty : List ℕ
 afterEmpty = 128 ∷ 0 ∷ 0 ∷ []
 
 pub subtracting : Reached (λ (x : List ℕ × List ℕ). subtractFromOutcome (x .0) (x .1) 0) subtractFromStops
-unfolding cmpNumber cmpKey digits cmpBound boundsPass startSide endSide intersectSides readNumber writeNumber readBytes readKey writeKey headOf readBound writeBound readRange writeRange whole writeMany countOf plan partBefore partFrom subtractFrom halfOpen subtracted subtractedGiven subtractFromOutcome
+unfolding cmpNumber cmpKey digits cmpBound boundsPass startSide endSide intersectSides readNumber writeNumber readBytes readKey writeKey headOf readBound writeBound readRange writeRange whole writeMany countOf plan partBefore partFrom subtractFrom subtracted subtractedGiven subtractFromOutcome
 subtracting =
     reached ([], every) refl
     (reached (padded, every) refl

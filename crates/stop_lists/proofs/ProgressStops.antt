@@ -14,7 +14,8 @@ use Rattle.incremental_progress.specs.Checks.{destinationIsSource, plannedInOrd
 use Rattle.incremental_progress.specs.Repeated.{StopsIn}
 use Rattle.incremental_progress.proofs.Repeated.{answers}
 use Rattle.from_compaction.specs.ProgressCalls.{progressed, progressMade, fromCompactionOutcome}
-use Rattle.subtract_from.specs.SubtractCalls.{halfOpen, subtracted, subtractedGiven, subtractFromOutcome}
+use Rattle.incremental_progress.specs.Checks.{halfOpen}
+use Rattle.subtract_from.specs.SubtractCalls.{subtracted, subtractedGiven, subtractFromOutcome}
 use Rattle.stop_lists.specs.Stops.{fromCompactionStops, subtractFromStops}
 use Rattle.stop_lists.proofs.Stopping.{checks, and-then, written, job-stops, whole-stops}
 use Rattle.stop_lists.proofs.GivenStops.{whole-range, three-listed}

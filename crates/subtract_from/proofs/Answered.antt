@@ -31,7 +31,8 @@ use Rattle.records.proofs.Within.{many-of-all}
 use Rattle.manifest.proofs.Given.{whole-read}
 use Rattle.incremental_progress.specs.Parts.{keyOf}
 use Rattle.incremental_progress.proofs.Outcomes.{answered, tested}
-use Rattle.subtract_from.specs.SubtractCalls.{halfOpen, subtracted, subtractedGiven, subtractFromOutcome}
+use Rattle.incremental_progress.specs.Checks.{halfOpen}
+use Rattle.subtract_from.specs.SubtractCalls.{subtracted, subtractedGiven, subtractFromOutcome}
 use Rattle.subtract_from.specs.SubtractLaws.{IsInterval, less, EachPartsAnswered}
 use Rattle.subtract_from.proofs.Laws.{parts-all, at-most-two-parts, parts-ascend, parts-pass, keys-outside-are-held-once}
 

@@ -1,17 +1,14 @@
 -- The exits of `subtract_from` and of the function that it calls once both ranges are read.
 -- Assumes nothing.
 use Prim.Native.Nat.{ℕ, _≤_}
-use mathlib.Core.Path.{_≡_, refl, sym, ap, _∙_}
+use mathlib.Core.Path.{_≡_, sym, ap, _∙_}
 use mathlib.Core.Bool.{Bool, true, false, and-false}
 use mathlib.Core.List.{List}
 use lib.ListN.{length}
 use Rattle.base.specs.Outcome.{Outcome, stop, answer, lent, reported, writtenTo}
 use Rattle.base.specs.declared.Written.{Written}
 use Rattle.base.specs.declared.Written.the-variants.{Stop}
-use Rattle.key.specs.Order.{Key}
-use Rattle.comparable_range.specs.Range.{Range, rangeOf, nonEmpty}
-use Rattle.comparable_range.specs.declared.Kind.{Kind}
-use Rattle.comparable_range.specs.declared.Kind.the-variants.{Unbounded, Included, Excluded}
+use Rattle.comparable_range.specs.Range.{nonEmpty}
 use Rattle.format.specs.Range.{readRange, boundIn, rangeIn, BoundInside, RangeWhole}
 use Rattle.format.specs.Span.{MetInside}
 use Rattle.format.specs.Whole.{whole}
@@ -23,8 +20,11 @@ use Rattle.records.specs.Layouts.{plan}
 use Rattle.manifest.proofs.Given.{whole-read}
 use Rattle.incremental_progress.specs.Intervals.{partBefore, partFrom, subtractFrom}
 use Rattle.incremental_progress.specs.Parts.{keyOf}
-use Rattle.subtract_from.specs.Found.{PartFound, partsIn, halfOpenKinds, subtractedTo}
-use Rattle.subtract_from.specs.SubtractCalls.{halfOpen, subtracted, subtractedGiven, subtractFromOutcome}
+use Rattle.subtract_from.specs.Found.{PartFound, partsIn, subtractedTo}
+use Rattle.incremental_progress.specs.Checks.{halfOpen}
+use Rattle.commit_durable.specs.Answers.{halfOpenKinds}
+use Rattle.commit_durable.proofs.PartExits.{half-open}
+use Rattle.subtract_from.specs.SubtractCalls.{subtracted, subtractedGiven, subtractFromOutcome}
 
 reports : {o : Outcome (List ℕ)} (k : ℕ) → o ≡ stop k → Stop k ≡ reported o
 reports k e = rw e
@@ -33,16 +33,6 @@ leaves : (d : List ℕ) {o : Outcome (List ℕ)} (k : ℕ) → o ≡ stop k → 
 leaves d k e = rw e
 
 -- ---- subtracted
-kinds-open : (ks : Kind) (s : Key) (ke : Kind) (e : Key) → halfOpen (rangeOf ks s ke e) ≡ halfOpenKinds ks ke
-unfolding halfOpen
-kinds-open Excluded s ke e = refl
-kinds-open Unbounded s Unbounded e = refl
-kinds-open Unbounded s Included e = refl
-kinds-open Unbounded s Excluded e = refl
-kinds-open Included s Unbounded e = refl
-kinds-open Included s Included e = refl
-kinds-open Included s Excluded e = refl
-
 module _ (a b : List ℕ) (t f s e : BoundSpan) (room : ℕ) where
   module _ {p : Bool} (i : p ≡ nonEmpty (rangeIn b s e)) where
     interval-fails : p ≡ false → subtractedTo room (rangeIn b s e) (rangeIn a t f) ≡ stop 4
@@ -68,7 +58,7 @@ module _ (a b : List ℕ) (t f s e : BoundSpan) (room : ℕ) where
 
       module _ {h : Bool} (k : h ≡ halfOpenKinds (s .kind) (e .kind)) (u : p ≡ true) (v : q ≡ true) where
         is-open : halfOpen (rangeIn b s e) ≡ h
-        is-open = kinds-open (s .kind) _ (e .kind) _ ∙ sym k
+        is-open = sym (half-open (s .kind) (e .kind) _ _) ∙ sym k
 
         open-fails : h ≡ false → subtractedTo room (rangeIn b s e) (rangeIn a t f) ≡ stop 10
         unfolding subtracted

@@ -11,11 +11,11 @@ use Rattle.format.specs.Whole.{whole}
 use Rattle.records.specs.Form.{writeMany}
 use Rattle.records.specs.Layouts.{plan}
 use Rattle.incremental_progress.specs.Intervals.{partBefore, partFrom, subtractFrom}
-use Rattle.subtract_from.specs.SubtractCalls.{halfOpen, subtracted, subtractedGiven, subtractFromOutcome}
+use Rattle.subtract_from.specs.SubtractCalls.{subtracted, subtractedGiven, subtractFromOutcome}
 use Rattle.subtract_from.specs.SubtractExamples.{SubtractExamples}
 
 pub subtract-examples : SubtractExamples
-unfolding cmpNumber cmpKey digits cmpBound boundsPass startSide endSide intersectSides readNumber writeNumber readBytes readKey writeKey headOf readBound writeBound readRange writeRange whole writeMany plan partBefore partFrom subtractFrom halfOpen subtracted subtractedGiven subtractFromOutcome
+unfolding cmpNumber cmpKey digits cmpBound boundsPass startSide endSide intersectSides readNumber writeNumber readBytes readKey writeKey headOf readBound writeBound readRange writeRange whole writeMany plan partBefore partFrom subtractFrom subtracted subtractedGiven subtractFromOutcome
 subtract-examples =
     record {
       both-sides = refl;

@@ -8,7 +8,6 @@ use Rattle.comparable_range.specs.Range.{Bound, unbounded, included, excluded, 
 use Rattle.comparable_range.specs.Laws.{keylessBounds}
 use Rattle.comparable_range.proofs.Keyless.{included-start-is-held, keyless-pass-and-hold-none}
 use Rattle.incremental_progress.specs.Intervals.{partBefore, partFrom, subtractFrom}
-use Rattle.subtract_from.specs.SubtractCalls.{halfOpen}
 use Rattle.subtract_from.specs.SubtractLaws.{IsInterval, keylessInterval, HoldsNoKey, OneIntervalHoldsNoKey, KeylessIntervalHoldsNoKey, sinceEmptyKey, KeylessIntervalWritesTheEmptyKey}
 
 -- ---- there is one only
@@ -16,7 +15,7 @@ abbrev range : Bound → Bound → Range
 range s e = record { start = s; end = e }
 
 only-one : (s e : Bound) → IsInterval (range s e) → HoldsNoKey (range s e) → range s e ≡ keylessInterval
-unfolding halfOpen holds startHolds endHolds cmpKey
+unfolding holds startHolds endHolds cmpKey
 only-one unbounded unbounded i h = absurd (true≢false (h .none []))
 only-one unbounded (included k) i h = absurd (true≢false (sym (i .half-open)))
 only-one unbounded (excluded []) i h = refl
@@ -28,7 +27,7 @@ pub one-interval-holds-no-key : OneIntervalHoldsNoKey
 one-interval-holds-no-key d i h = only-one (d .start) (d .end) i h
 
 pub keyless-interval-holds-no-key : KeylessIntervalHoldsNoKey
-unfolding halfOpen boundsPass keylessBounds cmpKey
+unfolding boundsPass keylessBounds cmpKey
 keyless-interval-holds-no-key =
     (record { passes = refl; half-open = refl }, record { none = keyless-pass-and-hold-none keylessInterval refl .1 })
 

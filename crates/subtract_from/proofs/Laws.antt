@@ -20,10 +20,11 @@ use Rattle.comparable_range.proofs.Lattice.{sooner-≼-right, ≼-later-right}
 use Rattle.comparable_range.proofs.ByCuts.{passes-≺, start-side-cut, end-side-cut}
 use Rattle.manifest.specs.Checks.{isExcluded}
 use Rattle.incremental_progress.specs.Checks.{isIncluded}
-use Rattle.incremental_progress.specs.Intervals.{listed, partBefore, partFrom, subtractFrom, startBound, endBound, toRange}
+use Rattle.incremental_progress.specs.Intervals.{listed, partBefore, partFrom, subtractFrom, startBound, endBound}
 use Rattle.incremental_progress.specs.Parts.{keyOf}
 use Rattle.incremental_progress.proofs.Subtraction.{Valid, times-subtract, subtract-absorbs, subtract-commutes}
-use Rattle.subtract_from.specs.SubtractCalls.{fromPlannedRange, halfOpen, subtracted}
+use Rattle.incremental_progress.specs.Parts.{fromPlannedRange}
+use Rattle.subtract_from.specs.SubtractCalls.{subtracted}
 use Rattle.subtract_from.specs.SubtractLaws.{IsInterval, less, KeysOutsideAreHeldOnce, AtMostTwoParts, PartsAscend, PartsPass, NoPartStartsExcluded, PartsAreTakenAgain, LesserIsAbsorbed, OneAfterTheOtherCommute}
 
 -- ---- an interval and the range that gives it
@@ -39,11 +40,9 @@ end-back (excluded k) h = refl
 
 module _ (d : Range) (i : IsInterval d) where
   starts : startBound (keyOf (d .start)) ≡ d .start
-  unfolding halfOpen
   starts = start-back (d .start) (and-first (not (isExcluded (d .start))) _ (i .half-open))
 
   ends : endBound (keyOf (d .end)) ≡ d .end
-  unfolding halfOpen
   ends = end-back (d .end) (and-second (not (isExcluded (d .start))) _ (i .half-open))
 
   valid : Valid (fromPlannedRange d)

@@ -1,20 +1,16 @@
 -- A part of a range as the code finds it: its bounds stand in one of two slices.
 use Prim.Native.Nat.{ℕ}
 use mathlib.Core.Path.{_≡_}
-use mathlib.Core.Bool.{Bool, not, _&&_}
 use mathlib.Core.Option.{Option, none, some}
 use mathlib.Core.List.{List, [], _++_}
 use Rattle.base.specs.Outcome.{Outcome, andThen, writtenTo}
-use Rattle.comparable_range.specs.Range.{Range, boundOf}
-use Rattle.comparable_range.specs.declared.Kind.{Kind}
+use Rattle.comparable_range.specs.Range.{Range}
 use Rattle.format.specs.Joint as joint
 use Rattle.format.specs.Range.{writeRange}
 use Rattle.format.specs.Span.{jointIn, MetInside}
 use Rattle.format.specs.declared.span.Met.{Met}
 use Rattle.format.specs.declared.span.Met.the-variants.{Nothing, At}
 use Rattle.incremental_progress.specs.Intervals.{listed}
-use Rattle.incremental_progress.specs.Checks.{isIncluded}
-use Rattle.manifest.specs.Checks.{isExcluded}
 use Rattle.records.specs.Layouts.{plan}
 use Rattle.subtract_from.specs.SubtractCalls.{subtracted}
 
@@ -39,10 +35,6 @@ partCount (At j) = 1
 -- two parts, each if there is one
 abbrev pub partsIn : List ℕ → List ℕ → Met → Met → List Range
 partsIn a b before from = listed (partIn a b before) ++ listed (partIn a b from)
-
--- check 10 by the kinds of the two bounds
-abbrev pub halfOpenKinds : Kind → Kind → Bool
-halfOpenKinds ks ke = not (isExcluded (boundOf ks [])) && not (isIncluded (boundOf ke []))
 
 -- what is written of the range r in so much room, once it and the interval d are read
 abbrev pub subtractedTo : ℕ → Range → Range → Outcome (List ℕ)

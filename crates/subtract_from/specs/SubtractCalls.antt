@@ -1,6 +1,6 @@
 -- `subtract_from`: what of a range lies outside a durable interval. The checks in their order, then the answer.
 use Prim.Native.Nat.{ℕ}
-use mathlib.Core.Bool.{Bool, not, _&&_}
+use mathlib.Core.Bool.{_&&_}
 use mathlib.Core.List.{List}
 use Rattle.base.specs.Outcome.{Outcome, answer, andThen, check, writtenTo}
 use Rattle.comparable_range.specs.Range.{Range, nonEmpty}
@@ -8,20 +8,11 @@ use Rattle.format.specs.Range.{readRange}
 use Rattle.format.specs.Whole.{whole}
 use Rattle.records.specs.Values.{Plan}
 use Rattle.records.specs.Layouts.{plan}
-use Rattle.manifest.specs.Checks.{isExcluded}
-use Rattle.incremental_progress.specs.Checks.{isIncluded}
-use Rattle.incremental_progress.specs.Intervals.{Interval, subtractFrom}
-use Rattle.incremental_progress.specs.Parts.{keyOf}
+use Rattle.incremental_progress.specs.Checks.{halfOpen}
+use Rattle.incremental_progress.specs.Intervals.{subtractFrom}
+use Rattle.incremental_progress.specs.Parts.{fromPlannedRange}
 
--- the interval that is given as a range
-abbrev pub fromPlannedRange : Range → Interval
-fromPlannedRange r = record { start = keyOf (r .start); end = keyOf (r .end) }
-
--- 10: it starts excluded or ends included
-unfoldable pub halfOpen : Range → Bool
-halfOpen r = not (isExcluded (r .start)) && not (isIncluded (r .end))
-
--- the interval d out of the range r: check 4 covers both
+-- the interval d, given as a range, out of the range r: check 4 covers both, 10 says that d starts excluded or ends included
 unfoldable pub subtracted : Range → Range → Outcome Plan
 subtracted d r = check 4 (nonEmpty d && nonEmpty r) (check 10 (halfOpen d) (answer (subtractFrom (fromPlannedRange d) r)))
 

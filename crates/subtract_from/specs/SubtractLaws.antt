@@ -16,7 +16,9 @@ use Rattle.records.specs.Values.{Plan}
 use Rattle.records.specs.Layouts.{plan}
 use Rattle.manifest.specs.Checks.{isExcluded}
 use Rattle.incremental_progress.specs.Intervals.{subtractFrom, bit, times}
-use Rattle.subtract_from.specs.SubtractCalls.{fromPlannedRange, halfOpen, subtracted, subtractFromOutcome}
+use Rattle.incremental_progress.specs.Parts.{fromPlannedRange}
+use Rattle.incremental_progress.specs.Checks.{halfOpen}
+use Rattle.subtract_from.specs.SubtractCalls.{subtracted, subtractFromOutcome}
 
 -- an interval that passes the checks 4 and 10
 pub record IsInterval (d : Range) : Type 0 where

@@ -3,7 +3,7 @@ mod parts;
 mod put;
 
 use base::Written;
-use comparable_range::Kind;
+use commit_durable::half_open;
 use format::RangeRead;
 use format::span;
 use format::span::RangeSpan;
@@ -15,27 +15,8 @@ ghost use Prim.Native.Nat.{_≤_};
 ghost use lib.ListN.{length};
 ghost use Rattle.base.specs.Outcome.{lent, reported};
 ghost use Rattle.format.specs.Range.{BoundInside, rangeIn};
-ghost use Rattle.subtract_from.specs.Found.{halfOpenKinds, subtractedTo};
+ghost use Rattle.subtract_from.specs.Found.{subtractedTo};
 ghost use Rattle.subtract_from.specs.SubtractCalls.{subtractFromOutcome};
-
-// Whether an interval does not start excluded and does not end included.
-fn half_open(start: Kind, end: Kind) -> bool
-    ensures { λ r. ⌜ r ≡ halfOpenKinds start end ⌝ }
-{
-    match start {
-        Kind::Excluded => false,
-        Kind::Unbounded => match end {
-            Kind::Unbounded => true,
-            Kind::Included => false,
-            Kind::Excluded => true,
-        },
-        Kind::Included => match end {
-            Kind::Unbounded => true,
-            Kind::Included => false,
-            Kind::Excluded => true,
-        },
-    }
-}
 
 // The parts of a range outside an interval, written to the front of out: the checks 4, 10 and 16.
 fn subtracted<'a>(
