@@ -123,8 +123,8 @@ pub fn run(seed: u64) -> bool {
         "each byte that a list leaves".into(),
     );
     // A view without keys has 60 bytes, a run's head 6. A commit needs a job besides. A block has 10
-    // bytes and its first key, an anchor too; a lookup needs a range besides. A job without parts has 6 bytes, with a
-    // source 10.
+    // bytes and its first key, an anchor too; a lookup needs a range besides. A job with
+    // a source, a part and an output has 58 bytes; ["", 00) has 6, and the range that it is taken out of 1.
     for (call, length, most) in [
         (Call::Compare, 3, 3),
         (Call::Contains, 4, 4),
@@ -140,8 +140,8 @@ pub fn run(seed: u64) -> bool {
         (Call::SampleAnchors, 23, 24),
         (Call::SelectBoundaries, 23, 24),
         (Call::PlanSubcompactionRanges, 68, 72),
-        (Call::FromCompaction, 15, 15),
-        (Call::SubtractFrom, 5, 6),
+        (Call::FromCompaction, 58, 60),
+        (Call::SubtractFrom, 5, 7),
     ] {
         let wrong = Wrong {
             call,
