@@ -4,12 +4,12 @@ use Prim.Native.Nat.{ℕ, _+_, _*_, _≤_, _<_}
 use native.Mathlib.Omega.{arith}
 use native.Mathlib.Numerals.{add-one}
 use mathlib.Core.Path.{_≡_, refl, sym, ap, _∙_}
-use mathlib.Core.Bool.{Bool, true, false}
+use mathlib.Core.Bool.{Bool, true, false, not}
 use mathlib.Core.List.{List, []}
 use lib.ListN.{length, getD, drop, drop-of-length-le}
 use lib.Seq.{drop-cons}
 use lib.Dec.{leb}
-use borrow.Author.Tests.{leb-true, leb-false}
+use borrow.Author.Tests.{leb-true, leb-false, not-true, not-false}
 use Rattle.base.specs.Rows.{rowAt, RowsHold, hold-at}
 use Rattle.format.specs.Got.{got, stop}
 use Rattle.format.specs.Whole.{ended}
@@ -64,14 +64,14 @@ module _ (s : List ℕ) {r : CountRead} (f : CountFound s (upTo 1 64 .read (drop
       pub next-inside : next ≤ length s
       next-inside = rw y at (x .found .inside)
 
-      pub left-over : {b : Bool} → b ≡ leb (length s) next → b ≡ false → ImageIndexed s d t (IndexedStop 1)
-      left-over e z =
-          let h = leb-false (length s) next (sym e ∙ z) in
+      pub left-over : {b : Bool} → b ≡ leb (length s) next → not b ≡ true → ImageIndexed s d t (IndexedStop 1)
+      left-over {b} e z =
+          let h = leb-false (length s) next (sym e ∙ not-true b z) in
           record { is = ap ended read ∙ rw (drop-cons s next 0); same = x .same }
 
-      pub image-done : {b : Bool} → b ≡ leb (length s) next → b ≡ true → ImageIndexed s d t (IndexedAt n fault)
-      image-done e z =
-          let h = leb-true (length s) next (sym e ∙ z) in
+      pub image-done : {b : Bool} → b ≡ leb (length s) next → not b ≡ false → ImageIndexed s d t (IndexedAt n fault)
+      image-done {b} e z =
+          let h = leb-true (length s) next (sym e ∙ not-false b z) in
           let rows : RowsHold 4 (RunIs s) (valuesOf (readMany (run .read) n (drop first s))) t = rw y at (x .kept) in
           let count = readMany-length (run .read) n (drop first s) (here .value) (drop next s) (here .is) in
           record {

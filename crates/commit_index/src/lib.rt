@@ -100,10 +100,10 @@ pub fn image_indexed(s: &[u8], index: &mut [usize]) -> Indexed
         CountRead::At(n, first) => match runs_indexed(s, first, n, index) {
             Judged::Stop(k) => Indexed::Stop(k),
             Judged::At { next, fault } => {
-                if records::at_end(s, next) {
-                    return Indexed::At { runs: n, fault };
+                if !records::at_end(s, next) {
+                    return Indexed::Stop(1);
                 }
-                Indexed::Stop(1)
+                Indexed::At { runs: n, fault }
             }
         },
     }

@@ -5,9 +5,9 @@ use mathlib.Core.Path.{_≡_, refl, sym, ap, _∙_}
 use mathlib.Core.List.{List}
 use lib.ListN.{length, drop, drop-of-length-le}
 use lib.Seq.{drop-cons}
-use borrow.Author.Tests.{le-leb, lt-leb, lt-ltb, le-ltb, ltb-true, ltb-false, leb-true, leb-false}
+use borrow.Author.Tests.{le-leb, lt-leb, lt-ltb, le-ltb, ltb-true, ltb-false, leb-true, leb-false, not-true, not-false}
 use lib.Dec.{ltb, leb}
-use mathlib.Core.Bool.{Bool, true, false}
+use mathlib.Core.Bool.{Bool, true, false, not}
 use Rattle.base.specs.Pick.{pick}
 use Rattle.base.specs.Outcome.{answer}
 use Rattle.format.specs.Got.{Got, got, stop}
@@ -23,11 +23,11 @@ module _ (n : ℕ) {r : Judged} where
   pub ended-stop : {k : ℕ} → r ≡ Stop k → Stop k ≡ endedBy n r
   ended-stop q = rw q
 
-  pub ended-left : {next fault : ℕ} {b : Bool} → r ≡ At next fault → b ≡ leb n next → b ≡ false → Stop 1 ≡ endedBy n r
-  ended-left {next} q e f = rw (q, lt-ltb next n (leb-false n next (sym e ∙ f)))
+  pub ended-left : {next fault : ℕ} {b : Bool} → r ≡ At next fault → b ≡ leb n next → not b ≡ true → Stop 1 ≡ endedBy n r
+  ended-left {next} {b = b} q e f = rw (q, lt-ltb next n (leb-false n next (sym e ∙ not-true b f)))
 
-  pub ended-all : {next fault : ℕ} {b : Bool} → r ≡ At next fault → b ≡ leb n next → b ≡ true → At next fault ≡ endedBy n r
-  ended-all {next} q e f = rw (q, le-ltb next n (leb-true n next (sym e ∙ f)))
+  pub ended-all : {next fault : ℕ} {b : Bool} → r ≡ At next fault → b ≡ leb n next → not b ≡ false → At next fault ≡ endedBy n r
+  ended-all {next} {b = b} q e f = rw (q, le-ltb next n (leb-true n next (sym e ∙ not-false b f)))
 
 pub next-inside : (s : List ℕ) (r : Judged) {next fault : ℕ} → r ≡ At next fault → JudgedInside s r → next ≤ length s
 next-inside s r q h = rw q at h

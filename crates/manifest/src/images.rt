@@ -120,10 +120,10 @@ pub fn ended(s: &[u8], r: Judged) -> Judged
     match r {
         Judged::Stop(k) => Judged::Stop(k),
         Judged::At { next, fault } => {
-            if records::at_end(s, next) {
-                return Judged::At { next, fault };
+            if !records::at_end(s, next) {
+                return Judged::Stop(1);
             }
-            Judged::Stop(1)
+            Judged::At { next, fault }
         }
     }
 }
