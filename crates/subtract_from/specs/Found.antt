@@ -6,8 +6,9 @@ use mathlib.Core.List.{List, [], _++_}
 use Rattle.base.specs.Outcome.{Outcome, andThen, writtenTo}
 use Rattle.comparable_range.specs.Range.{Range}
 use Rattle.format.specs.Joint as joint
-use Rattle.format.specs.Range.{writeRange}
+use Rattle.format.specs.Range.{rangeIn, writeRange}
 use Rattle.format.specs.Span.{jointIn, MetInside}
+use Rattle.format.specs.declared.span.RangeSpan.{RangeSpan}
 use Rattle.format.specs.declared.span.Met.{Met}
 use Rattle.format.specs.declared.span.Met.the-variants.{Nothing, At}
 use Rattle.incremental_progress.specs.Intervals.{listed}
@@ -35,6 +36,10 @@ partCount (At j) = 1
 -- two parts, each if there is one
 abbrev pub partsIn : List ℕ → List ℕ → Met → Met → List Range
 partsIn a b before from = listed (partIn a b before) ++ listed (partIn a b from)
+
+-- the range that a span stands for
+abbrev pub spanIn : List ℕ → RangeSpan → Range
+spanIn s r = rangeIn s (r .start) (r .end)
 
 -- what is written of the range r in so much room, once it and the interval d are read
 abbrev pub subtractedTo : ℕ → Range → Range → Outcome (List ℕ)

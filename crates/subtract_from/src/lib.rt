@@ -14,8 +14,8 @@ ghost use mathlib.Core.Path.{_≡_};
 ghost use Prim.Native.Nat.{_≤_};
 ghost use lib.ListN.{length};
 ghost use Rattle.base.specs.Outcome.{lent, reported};
-ghost use Rattle.format.specs.Range.{BoundInside, rangeIn};
-ghost use Rattle.subtract_from.specs.Found.{subtractedTo};
+ghost use Rattle.format.specs.Range.{BoundInside};
+ghost use Rattle.subtract_from.specs.Found.{spanIn, subtractedTo};
 ghost use Rattle.subtract_from.specs.SubtractCalls.{subtractFromOutcome};
 
 // The parts of a range outside an interval, written to the front of out: the checks 4, 10 and 16.
@@ -26,10 +26,10 @@ fn subtracted<'a>(
     d: RangeSpan,
     out: &mut [u8],
 ) -> Written
-    requires { ⌜ BoundInside (now range) (r .start) ⌝ ∗ ⌜ BoundInside (now range) (r .end) ⌝ ∗ ⌜ BoundInside (now interval) (d .start) ⌝ ∗ ⌜ BoundInside (now interval) (d .end) ⌝ }
-    requires { ⌜ length (now range) ≤ 65536 ⌝ ∗ ⌜ length (now interval) ≤ 65536 ⌝ }
-    ensures { λ w. ⌜ w ≡ reported (subtractedTo (length (now (out .entry))) (rangeIn (now (interval .entry)) (d .start) (d .end)) (rangeIn (now (range .entry)) (r .start) (r .end))) ⌝ }
-    ensures { λ w. ⌜ now (out .exit) ≡ lent (now (out .entry)) (subtractedTo (length (now (out .entry))) (rangeIn (now (interval .entry)) (d .start) (d .end)) (rangeIn (now (range .entry)) (r .start) (r .end))) ⌝ }
+    requires { ⌜ BoundInside (now range) (r .start) ⌝ ∗ ⌜ BoundInside (now range) (r .end) ⌝ ∗ ⌜ length (now range) ≤ 65536 ⌝ }
+    requires { ⌜ BoundInside (now interval) (d .start) ⌝ ∗ ⌜ BoundInside (now interval) (d .end) ⌝ ∗ ⌜ length (now interval) ≤ 65536 ⌝ }
+    ensures { λ w. ⌜ w ≡ reported (subtractedTo (length (now (out .entry))) (spanIn (now (interval .entry)) d) (spanIn (now (range .entry)) r)) ⌝ }
+    ensures { λ w. ⌜ now (out .exit) ≡ lent (now (out .entry)) (subtractedTo (length (now (out .entry))) (spanIn (now (interval .entry)) d) (spanIn (now (range .entry)) r)) ⌝ }
 {
     let start = d.start;
     let end = d.end;

@@ -25,7 +25,7 @@ enum-known-t c = search (needs, call-exits)
 
 subtracted-requires : tie.Need-subtracted-requires
 subtracted-requires c κs =
-    (search (needs, start-there), (search (needs, end-there), (search (needs, start-there), (search (needs, end-there), (search (needs, read-small), search (needs, read-small))))))
+    (search (needs, start-there), (search (needs, end-there), (search (needs, read-small), (search (needs, start-there), (search (needs, end-there), search (needs, read-small))))))
 
 returns : tie.Need-returns
 returns c = search (needs, call-exits)
