@@ -57,6 +57,7 @@ def declared(path):
     """The names that a file declares; of a proof of a function, those that are not answers or its theorem."""
     text = bare(read(path))
     names = set(DECLARED.findall(text)) - WORDS
+    names |= set(re.findall(r"^\s*(?:pub )?ruleset (\S+)", text, re.M))
     if is_walk(path):
         top = set(re.findall(r"^(?:abbrev |pub )*([^\s(){}:]+) : (?:tie|goal)\.", text, re.M))
         names -= top

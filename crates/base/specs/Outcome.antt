@@ -64,7 +64,7 @@ module _ (d b : List ℕ) {n : ℕ} (e : n ≡ length b) where
   pub stands : {f : List ℕ} → n ≤ length d → f ≡ over b d → f ≡ lent d (written_to (length d) b)
   stands h q = q ∙ sym (ap (lent d) (room h))
 
-pub ruleset written-exits = (stops_16, keeps, wrote, stands)
+pub ruleset written_exits = (stops_16, keeps, wrote, stands)
 
 -- a buffer keeps its length
 pub over_length : (b d : List ℕ) → length b ≤ length d → length (over b d) ≡ length d

@@ -43,7 +43,7 @@ module _ (a b : List ℕ) where
   unfolding compare_outcome
   compared h k e q = rw (key_fits a h, key_fits b k, q, e)
 
-pub ruleset compare-exits = (first_long, second_long, compared)
+pub ruleset compare_exits = (first_long, second_long, compared)
 
 -- ---- bounds
 module _ (ka : ℕ) (a : List ℕ) (kb : ℕ) (b : List ℕ) (start : Bool) (g : Given) (e : given_of a g ≡ bound_given ka a) where
@@ -60,7 +60,7 @@ module _ (ka : ℕ) (a : List ℕ) (kb : ℕ) (b : List ℕ) (start : Bool) (g :
     unfolding cmp_bound_outcome
     bounds_ordered w u v = rw (← e, q, ← f, w, v, u)
 
-pub ruleset bound-exits = (first_stops, second_stops, bounds_ordered)
+pub ruleset bound_exits = (first_stops, second_stops, bounds_ordered)
 
 -- ---- one range
 module _ {l : List ℕ} {r : RangeRead} (w : RangeWhole l r) where
@@ -118,6 +118,6 @@ module _ {l : List ℕ} {r : RangeRead} (w : RangeWhole l r) where
   unfolding as_point_outcome range_given
   not_a_point q = rw (range_stops q)
 
-pub ruleset inside-exits = (start_inside, end_inside)
+pub ruleset inside_exits = (start_inside, end_inside)
 
-pub ruleset range-exits = (start_inside, end_inside, tested, not_tested, key_too_long, key_failing, key_held, not_held, point_failing, is_point_lem, no_point, not_a_point)
+pub ruleset range_exits = (start_inside, end_inside, tested, not_tested, key_too_long, key_failing, key_held, not_held, point_failing, is_point_lem, no_point, not_a_point)

@@ -40,4 +40,4 @@ module _ (s t ids out : List ℕ) where
 pub commit_told : {s d x : List ℕ} {w : Indexed} → ImageIndexed s d x w → {n a : ℕ} → w ≡ IndexedAt n a → ImageTold s x n a
 commit_told {s} {d} {x} f q = subst (ImageAnswer s x) q f.is
 
-pub ruleset commit-exits = (commit_long, commit_long_kept, commit_image_stops, commit_image_kept, commit_told)
+pub ruleset commit_exits = (commit_long, commit_long_kept, commit_image_stops, commit_image_kept, commit_told)

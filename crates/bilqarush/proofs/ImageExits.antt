@@ -42,7 +42,7 @@ module _ {s : List ℕ} {w : Judged} (x : JudgedWhole s image_checks (whole imag
     unfolding check_image_outcome
     passing h = rw (accepted x q h).given
 
-pub ruleset check-exits = (unread, failing, passing)
+pub ruleset check_exits = (unread, failing, passing)
 
 -- ---- compacted_effective_range
 module _ (s : List ℕ) (run-place place : ℕ) {r : ViewRead} (x : ViewPlaced s (view_given s run-place place) r) where
@@ -62,7 +62,7 @@ module _ (s : List ℕ) (run-place place : ℕ) {r : ViewRead} (x : ViewPlaced s
           inside = (y.start, y.end);
         }
 
-pub ruleset effective-exits = (not_placed, placed_inside, range_of)
+pub ruleset effective_exits = (not_placed, placed_inside, range_of)
 
 -- ---- list
 module _ {s : List ℕ} {w : Judged} (x : JudgedWhole s image_checks (whole image.read s) w) (d : List ℕ) where
@@ -112,4 +112,4 @@ module _ {s : List ℕ} {w : Judged} (x : JudgedWhole s image_checks (whole imag
         pub list_stands : {f : List ℕ} → n ≤ length d → f ≡ over (listing (values_of (image.read s))) d → f ≡ lent d (list_outcome s (length d))
         list_stands l p = stands d (listing (values_of (image.read s))) e l p ∙ sym (ap (lent d) outcome_is)
 
-pub ruleset list-exits = (unlisted, unlisted_keeps, refused_list, refused_keeps, image_small, image_is_there, list_stops_lem, list_keeps, list_room, list_wrote, list_stands)
+pub ruleset list_exits = (unlisted, unlisted_keeps, refused_list, refused_keeps, image_small, image_is_there, list_stops_lem, list_keeps, list_room, list_wrote, list_stands)

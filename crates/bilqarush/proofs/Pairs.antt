@@ -57,7 +57,7 @@ module _ {a b : List ℕ} {r q : RangeRead} (w : RangeWhole a r) (v : RangeWhole
             inside = (start_inside w x, (end_inside w x, (start_inside v y, end_inside v y)));
           }
 
-pub ruleset pair-exits = (first_stops, second_stops, first_fails, second_fails, both_pass, start_inside, end_inside)
+pub ruleset pair_exits = (first_stops, second_stops, first_fails, second_fails, both_pass, start_inside, end_inside)
 
 -- ---- from_sides
 module _ (r q : RangeSpan) {i : Sides} where
@@ -72,7 +72,7 @@ module _ (r q : RangeSpan) {i : Sides} where
       → Found (record { side = x; bound = u }) (record { side = y; bound = v }) ≡ joined_by i r q
   one_joined h k l = rw (h, k, l)
 
-pub ruleset joined-exits = (none_joined, one_joined)
+pub ruleset joined_exits = (none_joined, one_joined)
 
 -- ---- a range joined from two that were given
 module _ {a b : List ℕ} {r : Both} (w : BothFound a b r) {x y : RangeSpan} (q : r ≡ Ranges x y) where
@@ -129,7 +129,7 @@ module _ {a b : List ℕ} {r : Both} (w : BothFound a b r) {n : ℕ} (q : r ≡ 
   unfolding union_outcome
   no_union = record { meaning = rw given_stops; inside = tt }
 
-pub ruleset join-exits = (in_1, in_2, in_3, in_4, intersection, union_made, no_intersection, no_union)
+pub ruleset join_exits = (in_1, in_2, in_3, in_4, intersection, union_made, no_intersection, no_union)
 
 -- ---- a number and a part that were made of the range that `intersect` answered
 start_number : (a b : List ℕ) (j : Joined) → stop_number j ≡ stop_of (start_key_of (joint_of a b j))

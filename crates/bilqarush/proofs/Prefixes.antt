@@ -45,7 +45,7 @@ module _ (p d : List ℕ) where
   pub prefix_stands : {f : List ℕ} (j k : Key) → length p ≤ 1024 → f ≡ lent d (written_to (length d) (write_range (from_prefix_and_subrange p (range_of Unbounded j Unbounded k)))) → f ≡ lent d (from_prefix_outcome p (length d))
   prefix_stands j k h q = q ∙ sym (ap (lent d) (prefix_is j k h))
 
-pub ruleset prefix-exits = (prefix_long, prefix_long_keeps, free_joins, prefix_reports, prefix_stands)
+pub ruleset prefix_exits = (prefix_long, prefix_long_keeps, free_joins, prefix_reports, prefix_stands)
 
 module _ (p l d : List ℕ) where
   pub sub_long : 1024 < length p → Stop 3 ≡ reported (from_prefix_and_subrange_outcome p l (length d))
@@ -74,4 +74,4 @@ module _ (p l d : List ℕ) where
       unfolding from_prefix_and_subrange_outcome
       sub_stands g = rw (key_fits p h, range_is w q) g
 
-pub ruleset subrange-exits = (sub_long, sub_long_keeps, sub_stops, sub_stops_keeps, sub_reports, sub_stands, start_inside, end_inside)
+pub ruleset subrange_exits = (sub_long, sub_long_keeps, sub_stops, sub_stops_keeps, sub_reports, sub_stands, start_inside, end_inside)

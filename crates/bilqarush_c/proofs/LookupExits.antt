@@ -34,4 +34,4 @@ pub covered_told :
     {o p : Outcome Places} {start end : Held ℕ} {r : ℕ} → o ≡ p → CoveredTold o start end r → CoveredTold p start end r
 covered_told e t = rw (← e) t
 
-pub ruleset lookup-exits = (option_told, covered_told)
+pub ruleset lookup_exits = (option_told, covered_told)

@@ -93,4 +93,4 @@ module _ {x : Checked} {o : Outcome Unit} (e : checked_answer x ≡ o) where
   pub image_accepted : x ≡ Accepted → 0 ≡ stop_of o
   image_accepted q = sym (ap (λ y. stop_of (checked_answer y)) q) ∙ ap stop_of e
 
-pub ruleset image-exits = (image_refused, image_accepted)
+pub ruleset image_exits = (image_refused, image_accepted)

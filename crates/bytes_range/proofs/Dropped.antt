@@ -63,7 +63,7 @@ module _ (p : Key) (i m n : ℕ) {t : Bool} (e : t ≡ all_ff (take m (drop i p)
   pub first_half_lem : t ≡ false → n ≡ m + m → false ≡ all_ff (take n (drop i p))
   first_half_lem h d = sym (rw (d, all_parts m m (drop i p), ← e, h))
 
-pub ruleset ff-exits = (eight_seen, both_halves, first_half_lem)
+pub ruleset ff_exits = (eight_seen, both_halves, first_half_lem)
 
 -- ---- fewer
 all_dropped : (m : ℕ) (p : Key) (i : ℕ) → i + m ≤ length p → all_ff (take m (drop i p)) ≡ true → kept_of p i ≡ kept_of p (i + m)
@@ -89,4 +89,4 @@ one_dropped p (suc m) h e =
     let z : suc m - 1 ≡ m = omega arith in
     rw (z, eq-eqb _ _ (rw z at e))
 
-pub ruleset drop-exits = (many_dropped, one_dropped)
+pub ruleset drop_exits = (many_dropped, one_dropped)

@@ -74,7 +74,7 @@ module _ (p s : Key) {k : Kind} (h : k ≡ Unbounded) where
   pub next_put : (d : List ℕ) (at : ℕ) {f : List ℕ} → f ≡ splice d at (write_bound (join_end p unbounded)) → f ≡ splice d at (write_bound (join_end p (bound_of k s)))
   next_put d at l = rw h l
 
-pub ruleset put-exits = (kept_free, bare_written, in_written, ex_written, end_in_written, end_ex_written, bare_within, room_for, place_past, bound_put, free_past, free_put, end_free_past, end_free_put, next_room, next_past, next_put, spliced_length)
+pub ruleset put_exits = (kept_free, bare_written, in_written, ex_written, end_in_written, end_ex_written, bare_within, room_for, place_past, bound_put, free_past, free_put, end_free_past, end_free_put, next_room, next_past, next_put, spliced_length)
 
 -- ---- put_next
 module _ (p : Key) {n : ℕ} (q : n ≡ kept_of p (length p)) (z : n ≡ 0 → ⊥) where
@@ -96,4 +96,4 @@ module _ (p : Key) {n : ℕ} (q : n ≡ kept_of p (length p)) (z : n ≡ 0 → �
   pub next_within : length p ≤ 1024 → length (take (n - 1) p) + 1 ≤ 1024
   next_within l = rw (length-take-le (n - 1) p (omega (arith, last_in_lem))) (omega (arith, last_in_lem))
 
-pub ruleset next-exits = (last_in_lem, last_part, front_length, not_ff, next_written, next_within, room_for, place_past, bound_put, spliced_length)
+pub ruleset next_exits = (last_in_lem, last_part, front_length, not_ff, next_written, next_within, room_for, place_past, bound_put, spliced_length)

@@ -47,7 +47,7 @@ module _ (p s : Key) (k : Kind) {t : Bool} (e : t ≡ is_keyed k) where
       go Included w = absurd (mathlib.Core.Bool.true≢false w)
       go Excluded w = absurd (mathlib.Core.Bool.true≢false w)
 
-pub ruleset join-exits = (keyed_joins, unkeyed_joins)
+pub ruleset join_exits = (keyed_joins, unkeyed_joins)
 
 -- neither is a prefix left with nothing
 module _ (p s e : Key) (j k : Kind) where
@@ -100,7 +100,7 @@ module _ (p s e : Key) (j k : Kind) where
       go (b ∷ p) [] n = refl
       go (b ∷ p) (c ∷ e) n = ne_eqb (length (c ∷ e)) 0 (λ z. omega arith)
 
-pub ruleset leave-exits = (start_in_leaves, start_ex_leaves, both_free_leaves, end_in_leaves, no_prefix_leaves, end_ex_leaves)
+pub ruleset leave_exits = (start_in_leaves, start_ex_leaves, both_free_leaves, end_in_leaves, no_prefix_leaves, end_ex_leaves)
 
 module _ (s e : Key) (j k : Kind) where
   pub free_no_point : j ≡ Unbounded → none ≡ as_point (range_of j s k e)
@@ -127,4 +127,4 @@ module _ (s e : Key) (j k : Kind) where
       go true = refl
       go false = refl
 
-pub ruleset point-exits = (free_no_point, ex_no_point, end_free_no_point, end_ex_no_point, point_if_equal)
+pub ruleset point_exits = (free_no_point, ex_no_point, end_free_no_point, end_ex_no_point, point_if_equal)

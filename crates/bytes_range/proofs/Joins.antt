@@ -39,7 +39,7 @@ kept_here p (suc m) h e =
     let z : suc m - 1 ≡ m = omega arith in
     rw (ne_eqb _ _ (rw z at e))
 
-pub ruleset kept-exits = (none_left, fewer_left, kept_here)
+pub ruleset kept_exits = (none_left, fewer_left, kept_here)
 
 -- ---- kept_for, and what its answer says of an unbounded end
 module _ (p : Key) (k : Kind) where
@@ -59,7 +59,7 @@ module _ (p : Key) (k : Kind) where
   unfolding kept_for
   kept_free h q = rw h at q
 
-pub ruleset kept-for-exits = (kept_all, kept_in, kept_ex)
+pub ruleset kept_for_exits = (kept_all, kept_in, kept_ex)
 
 -- what is kept is within the prefix, and its last byte is not FF
 pub kept_le : (p : List ℕ) (n : ℕ) → kept_of p n ≤ n
@@ -179,7 +179,7 @@ module _ (p s : Key) {k : Kind} where
   pub size_ex : k ≡ Excluded → 2 + length p + length s ≡ length (write_bound (join_start p (bound_of k s)))
   size_ex h = sym (ap length (written_ex _ (p ++ s) (start_ex p s h)) ∙ size_joined p s)
 
-pub ruleset start-exits = (kind_free, kind_bare, kind_in, kind_ex, size_free, size_bare, size_in, size_ex)
+pub ruleset start_exits = (kind_free, kind_bare, kind_in, kind_ex, size_free, size_bare, size_in, size_ex)
 
 -- ---- end_kind, end_size
 module _ (p e : Key) {k : Kind} where
@@ -220,7 +220,7 @@ module _ (p e : Key) {k : Kind} where
   pub end_size_ex : k ≡ Excluded → 2 + length p + length e ≡ length (write_bound (join_end p (bound_of k e)))
   end_size_ex h = sym (ap length (written_ex _ (p ++ e) (end_ex p e h)) ∙ size_joined p e)
 
-pub ruleset end-exits = (kept_free, end_kind_free, end_kind_next, end_size_free, end_size_next, kept_fits, end_kind_in, end_kind_ex, end_size_in, end_size_ex)
+pub ruleset end_exits = (kept_free, end_kind_free, end_kind_next, end_size_free, end_size_next, kept_fits, end_kind_in, end_kind_ex, end_size_in, end_size_ex)
 
 -- ---- lengths that join fit
 pub kept_small : (p : Key) {n : ℕ} → n ≡ kept_of p (length p) → length p ≤ 1024 → 2 + n ≤ 1026
@@ -253,4 +253,4 @@ module _ (p s : Key) {k : Kind} where
   pub within_ex : k ≡ Excluded → joins_within p (bound_of k s) ≡ true → length p + length s ≤ 1024
   within_ex h w = joined_ex h w
 
-pub ruleset fit-exits = (fits_in, fits_ex, small_in, small_ex, kept_small, within_in, within_ex)
+pub ruleset fit_exits = (fits_in, fits_ex, small_in, small_ex, kept_small, within_in, within_ex)

@@ -64,4 +64,4 @@ module _ (d : List ℕ) (p : Key) (ks : Kind) (s : Key) (ke : Kind) (e : Key) wh
 pub at_front : (d b : List ℕ) {f : List ℕ} → f ≡ splice d 0 b → f ≡ over b d
 at_front d b e = e ∙ rw zero-add
 
-pub ruleset range-puts = (range_size, range_room, at_front, head_room, start_room, end_room, all_put, spliced_length)
+pub ruleset range_puts = (range_size, range_room, at_front, head_room, start_room, end_room, all_put, spliced_length)

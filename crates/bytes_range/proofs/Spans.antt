@@ -44,7 +44,7 @@ module _ (p : Key) (r : Range) where
     pub both_pass : {u : Bool} → t ≡ true → u ≡ leaves_none p r → u ≡ false → true ≡ (non_empty r && non_empty (from_prefix_and_subrange p r))
     both_pass h f k = rw (joined_passes_as_given p r, ← e, h, ← f, k)
 
-pub ruleset pass-exits = (start_joins_not, both_join, given_fails, joined_fails, both_pass)
+pub ruleset pass_exits = (start_joins_not, both_join, given_fails, joined_fails, both_pass)
 
 -- what `join` knows of the parts it says of the range
 module _ (l : List ℕ) (start end : BoundSpan) {s e : Key} (hs : s ≡ part l start) (he : e ≡ part l end) (p : Key) (d : List ℕ) where
@@ -93,6 +93,6 @@ module _ (p : Key) (ks ke : Kind) (s e : Key) {t : Bool} (ht : t ≡ range_joins
   pub end_joins : t ≡ true → joins_within p (bound_of ke e) ≡ true
   end_joins h = and_second (joins_within p (bound_of ks s)) _ (sym ht ∙ h)
 
-pub ruleset join-calls = (stops_3, keeps_3, stops_4, keeps_4, join_reports, join_stands, start_joins, end_joins)
+pub ruleset join_calls = (stops_3, keeps_3, stops_4, keeps_4, join_reports, join_stands, start_joins, end_joins)
 
-pub ruleset span-exits = (point_in)
+pub ruleset span_exits = (point_in)

@@ -38,4 +38,4 @@ module _ {record' : List ℕ} {h : JobHead} (t : HeadTold record' h) where
       unfolding progress_fault parts_fault planned_in_order outputs_in_order
       later_fault r = rw (is_source, q, are_there, r) t.late
 
-pub ruleset fault-exits = (not_a_source, not_there, later_fault)
+pub ruleset fault_exits = (not_a_source, not_there, later_fault)

@@ -140,4 +140,4 @@ module _ {s x : List ℕ} {n a : ℕ} (i : ImageTold s x n a) (h : length s ≤ 
             pub job_written : {o : List ℕ} → o ≡ lent out (applied_outcome (image_of s) (job_of t) ids (length out)) → o ≡ lent out (commit_outcome s t ids (length out))
             job_written z = z ∙ sym (ap (lent out) same)
 
-pub ruleset job-exits = (job_long, job_long_kept, job_stops, job_stops_kept, job_faulty, job_faulty_kept, job_given, job_report, job_written)
+pub ruleset job_exits = (job_long, job_long_kept, job_stops, job_stops_kept, job_faulty, job_faulty_kept, job_given, job_report, job_written)

@@ -98,7 +98,7 @@ module _ {t : List ℕ} {w c n sum k : ℕ} (p : Summed t w c n sum k) where
           rest = p.rest ∙ ap (λ l. sum + column_sum c l) (rows_at w n k t h) ∙ ap (λ x. sum + (x + column_sum c (drop (k + 1) (rows_in w n t)))) this ∙ (omega arith);
         }
 
-pub ruleset sum-exits = (sum_begin, sum_all, sum_place, sum_row_fits, sum_place_fits, sum_fits, sum_next)
+pub ruleset sum_exits = (sum_begin, sum_all, sum_place, sum_row_fits, sum_place_fits, sum_fits, sum_next)
 
 -- ---- rows_at_most
 -- a column that counts lists, one a row
@@ -165,4 +165,4 @@ module _ {s t : List ℕ} {n : ℕ} (h : IndexHold s n t) where
         unfolding rows_at_most
         rows_are = rw (e, f, views_are, outputs_are, ← k.count)
 
-pub ruleset most-exits = (index_long, views_small, parts_long, outputs_small, views_fit, rows_fit, rows_are)
+pub ruleset most_exits = (index_long, views_small, parts_long, outputs_small, views_fit, rows_fit, rows_are)

@@ -84,7 +84,7 @@ module _ (given record' ids out : List ℕ) {b : Bool} (e : b ≡ covered_by (jo
   pub uncovered_kept : b ≡ false → out ≡ lent out (covered_outcome given record' ids (length out))
   uncovered_kept h = sym (ap (lent out) (no h))
 
-pub ruleset cover-exits = (stage_head, stage_cover, stage_gaps, stage_outputs, stage_long, covered_report, covered_written, uncovered, uncovered_kept)
+pub ruleset cover_exits = (stage_head, stage_cover, stage_gaps, stage_outputs, stage_long, covered_report, covered_written, uncovered, uncovered_kept)
 
 -- ---- apply_few and apply_many
 -- two numbers for each output, eleven for each row

@@ -114,4 +114,4 @@ module _ {given record' index parts : List ℕ} {n : ℕ} {h : JobHead} (p : Giv
         pub apply_written : {o : List ℕ} → o ≡ lent out (covered_outcome given record' ids (length out)) → o ≡ lent out (applied_outcome i j ids (length out))
         apply_written q = q ∙ sym (ap (lent out) stages_are)
 
-pub ruleset apply-exits = (apply_stops, apply_kept, apply_read, apply_held, apply_report, apply_written)
+pub ruleset apply_exits = (apply_stops, apply_kept, apply_read, apply_held, apply_report, apply_written)

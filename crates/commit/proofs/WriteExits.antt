@@ -72,7 +72,7 @@ few_places h l = record { enough = λ n _ k. omega arith }
 pub many_places : {a : ImagePlan} {order : List ℕ} → 1024 ≤ length order → OrderLong a order
 many_places l = record { enough = λ n k _. omega arith }
 
-pub ruleset finish-exits = (few_places, many_places, finish_used, finish_used_kept, finish_many, finish_many_kept, finish_long, finish_long_kept, settled)
+pub ruleset finish_exits = (few_places, many_places, finish_used, finish_used_kept, finish_many, finish_many_kept, finish_long, finish_long_kept, settled)
 
 -- ---- write_image
 within : (b : Bool) (n : ℕ) → b ≡ true → n ≤ 65536 → (b && leb n 65536) ≡ true
@@ -133,4 +133,4 @@ module _ {given record' ids runs rows : List ℕ} {a : ImagePlan} (s : Settled g
     pub write_wrote : a.bytes ≤ length out → Wrote a.bytes ≡ reported (planned_outcome given record' ids (length out))
     write_wrote h = wrote out (image.write (new s.ready.planned)) long h ∙ sym (ap reported (outcome_is out))
 
-pub ruleset write-exits = (write_there, write_writable, write_stands, write_short, write_short_kept, write_wrote)
+pub ruleset write_exits = (write_there, write_writable, write_stands, write_short, write_short_kept, write_wrote)

@@ -34,7 +34,7 @@ head_room l e = omega (arith, length_unmapped ℕ l 16 e)
 pub tail_room : (l : List ℕ) → length (map (λ (v : ℕ). v) l) ≡ 16 → 16 ≤ length l
 tail_room l e = omega (arith, length_unmapped ℕ l 16 e)
 
-pub ruleset entry-exits = (entry_is, entry_small, head_room, tail_room)
+pub ruleset entry_exits = (entry_is, entry_small, head_room, tail_room)
 
 -- ---- keep
 module _ (chain : List ℕ) (k : ℕ) (h : k * 2 + 2 ≤ length chain) where
@@ -57,7 +57,7 @@ module _ (chain slots : List ℕ) (k place : ℕ) (x : TableId) {e : ℕ} (f : e
   pub put_slot : set slots e (k + 1) ≡ set slots (entry_of (length slots) x) (k + 1)
   put_slot = rw f
 
-pub ruleset keep-exits = (put_room, put_next_room, put_fits, put_next_fits, put_row, put_slot)
+pub ruleset keep_exits = (put_room, put_next_room, put_fits, put_next_fits, put_row, put_slot)
 
 -- ---- is_kept
 pub record Looking (s chain : List ℕ) (n : ℕ) (x : TableId) (ts : List Table) (left : ℕ) : Type 0 where
@@ -128,4 +128,4 @@ module _ {s chain : List ℕ} {n : ℕ} {x : TableId} {ts : List Table} {left : 
             });
           }
 
-pub ruleset kept-exits = (looking, not_kept, row_room, place_room, place_fits, next_fits, place_inside, next_less, found_kept, looking_on)
+pub ruleset kept_exits = (looking, not_kept, row_room, place_room, place_fits, next_fits, place_inside, next_less, found_kept, looking_on)

@@ -56,7 +56,7 @@ module _ {slots₀ slots : List ℕ} {i : ℕ} (p : Clearing slots₀ slots i) w
 pub clear_less : (slots : List ℕ) (i : ℕ) → i < length slots → length (set slots i 0) - (i + 1) < length slots - i
 clear_less slots i h = rw length-set (omega arith)
 
-pub ruleset clear-exits = (clear_begin, clear_less, clear_turn, clear_end)
+pub ruleset clear_exits = (clear_begin, clear_less, clear_turn, clear_end)
 
 -- ---- keep_part
 entry_alike : (n : ℕ) (x y : TableId) → x.0 ≡ y.0 → entry_of n x ≡ entry_of n y
@@ -143,7 +143,7 @@ module _ {s : List ℕ} {first m k : ℕ} {chain₀ slots₀ chain slots : List 
               slots_length = sl ∙ p.slots_length;
             }
 
-pub ruleset part-exits = (keeping, keeping_all, keeping_here, keeping_fits, keeping_room, keeping_inside, keeping_on)
+pub ruleset part_exits = (keeping, keeping_all, keeping_here, keeping_fits, keeping_room, keeping_inside, keeping_on)
 
 -- ---- keep_outputs
 pub none_kept_yet : {slots₀ slots : List ℕ} (s chain : List ℕ) → Cleared slots₀ slots → 0 < length slots₀ → SomeKept s 0 chain slots
@@ -257,4 +257,4 @@ module _ {s parts : List ℕ} {n : ℕ} {chain₀ slots₀ chain slots : List �
       pub kept_fits : {chain' slots' : List ℕ} → MoreKept s (k + r.outputs) chain slots chain' slots' → length s < 2 ^ 64 → Fits w64 (k + r.outputs)
       kept_fits w l = omega (arith, w.kept.upto, few_outputs s)
 
-pub ruleset outputs-exits = (parts_begin, parts_slots, parts_all, part_room, part_outputs, parts_on, kept_fits)
+pub ruleset outputs_exits = (parts_begin, parts_slots, parts_all, part_room, part_outputs, parts_on, kept_fits)

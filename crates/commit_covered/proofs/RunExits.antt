@@ -89,4 +89,4 @@ module _ {given s index gap-table : List ℕ} {h : CoverHead} {k : ℕ} (x : Run
         pub runs_onward : b ≡ true → RunsSeen given s index gap-table h (k + 1)
         runs_onward z = record { ready = x.ready; same = here ∙ rw (eq-eqb y.id h.destination e, run_is, z) }
 
-pub ruleset runs-exits = (runs_begin, runs_all, runs_next, runs_views, runs_other, runs_left, runs_onward)
+pub ruleset runs_exits = (runs_begin, runs_all, runs_next, runs_views, runs_other, runs_left, runs_onward)

@@ -175,4 +175,4 @@ module _ {s : List ℕ} {first n : ℕ} {job : List ℕ} {m g seen at : ℕ} (p 
               (All-map (λ k l. behind_later (effective (view_in s v)).start (effective k).start (take d (job_gaps job)) l (rw (start_is w) at y.behind)) (drop (seen + 1) (views_at s first n)) later)
               (rw (output_is, z, c))
 
-pub ruleset view-exits = (seen_none, seen_all, seen_here, shown_inside, shown_held, shown_behind, seen_other, seen_left, seen_covered)
+pub ruleset view_exits = (seen_none, seen_all, seen_here, shown_inside, shown_held, shown_behind, seen_other, seen_left, seen_covered)

@@ -31,7 +31,7 @@ module _ (b : BoundSpan) (k : Kind) {t : Bool} (h : t ≡ is_keyed b.kind) where
   pub kind_stays : t ≡ false → b ≡ with_kind k b
   kind_stays e = rw (← h, e)
 
-pub ruleset kind-exits = (kind_set, kind_stays)
+pub ruleset kind_exits = (kind_set, kind_stays)
 
 -- ---- is_key
 pub key_is :
@@ -129,4 +129,4 @@ module _ (s : List ℕ) (r : RangeSpan) (m f : ℕ) (o : Outputs) {i : BoundSpan
         first_is = refl;
       }
 
-pub ruleset row-exits = (all_durable, up_to_last)
+pub ruleset row_exits = (all_durable, up_to_last)

@@ -58,7 +58,7 @@ module _ (s : List ℕ) (g : GapStart) (b : BoundSpan) {t u : Bool} (h : t ≡ i
       → GapHeld s (gap_to (start_in s g) (key_of (bound_in s b))) (record { start = g.bound; end = j })
   gap_there e hg hb y = rw y (record { is = rw (to_by, e); start = hg; end = hb })
 
-pub ruleset to-exits = (no_gap, gap_there)
+pub ruleset to_exits = (no_gap, gap_there)
 
 -- ---- last_gap
 module _ (s : List ℕ) (g : GapStart) where
@@ -68,7 +68,7 @@ module _ (s : List ℕ) (g : GapStart) where
   pub to_the_end : g.there ≡ true → StartInside s g → GapHeld s (last_gap (start_in s g)) (record { start = g.bound; end = open_span })
   to_the_end e h = record { is = rw e; start = h; end = omega arith }
 
-pub ruleset last-exits = (none_last, to_the_end)
+pub ruleset last_exits = (none_last, to_the_end)
 
 -- ---- gap_from
 pub from_is :
@@ -198,4 +198,4 @@ module _ {s : List ℕ} {n : ℕ} {d t : List ℕ} {k r : ℕ} {g : GapStart} (p
         same = gaps_same m.start m.end w;
       }
 
-pub ruleset gaps-exits = (gaps_begin, gaps_room, gaps_same, gaps_none, gaps_onward, gaps_all)
+pub ruleset gaps_exits = (gaps_begin, gaps_room, gaps_same, gaps_none, gaps_onward, gaps_all)

@@ -79,4 +79,4 @@ module _ (s : List ℕ) {r : JobRead} (f : JobFound s (job_head.read s) r) {e c 
             same = x.same;
           }
 
-pub ruleset job-exits = (no_job, parts_from, parts_most, parts_stop, left_over, job_done)
+pub ruleset job_exits = (no_job, parts_from, parts_most, parts_stop, left_over, job_done)

@@ -53,7 +53,7 @@ module _ (s : List ℕ) (t : TableSpan) {a : Bool} (ha : a ≡ keys_in_order (ta
     unfolding fault_of table_checks
     table_none f = rw (← ha, e, size_is, f)
 
-pub ruleset table-exits = (table_5, table_7, table_none)
+pub ruleset table_exits = (table_5, table_7, table_none)
 
 -- ---- output_between
 -- a table ends by a cut if its last bound, as an end, stands there or before, and is a key
@@ -87,7 +87,7 @@ module _ (s : List ℕ) (i j : BoundSpan) (t : TableSpan) where
         ∙ rw (begins, e, k, w, ends_by_cuts (bound_in s l) (bound_in s j), q)
         (ap (λ x. a && x) (sym (ends_by_lem t.flagged (take t.last_len (drop t.last_at s)) (end_cut (bound_in s j)))))
 
-pub ruleset between-exits = (first_in, last_in_lem, between)
+pub ruleset between_exits = (first_in, last_in_lem, between)
 
 -- ---- output_more
 pub more_is :
@@ -173,4 +173,4 @@ module _ {s : List ℕ} {from n : ℕ} {planned : RangeSpan} {left : ℕ} {befor
             before_in = rw hl output_in.last;
           })
 
-pub ruleset outputs-exits = (outputs_begin, outputs_end, outputs_stop, output_in, outputs_onward)
+pub ruleset outputs_exits = (outputs_begin, outputs_end, outputs_stop, output_in, outputs_onward)

@@ -60,7 +60,7 @@ module _ (s : List ℕ) (r : RangeSpan) {t : Bool} (h : t ≡ non_empty (range_i
   unfolding fault_of
   planned_fails e = rw (← h, e)
 
-pub ruleset planned-exits = (planned_passes, planned_fails)
+pub ruleset planned_exits = (planned_passes, planned_fails)
 
 -- ---- planned_after
 pub half_open_lem : (ks ke : Kind) (x y : Key) → half_open_kinds ks ke ≡ half_open (rangeBy ks x ke y)
@@ -83,7 +83,7 @@ module _ (s : List ℕ) (first : Bool) (b i j : BoundSpan) {h : Bool} (e : h ≡
   pub next_part : {t r : Bool} → first ≡ false → t ≡ non_empty (range_in s i b) → r ≡ (h && not t) → r ≡ planned_after (cut_of first (bound_in s b)) (range_in s i j)
   next_part f w z = z ∙ ap (λ x. h && x) (ap not w ∙ after_by_cuts (range_in s i b)) ∙ sym (opened ∙ rw f)
 
-pub ruleset after-exits = (first_part, next_part)
+pub ruleset after_exits = (first_part, next_part)
 
 -- ---- part_more
 pub more_is :
@@ -178,7 +178,7 @@ module _ (s : List ℕ) (k : ℕ) (p : PartsSeen) (t : List ℕ) {r : PartRead} 
               same = spliced_length t (k * 10) (part_numbers h) hu room;
             })
 
-pub ruleset part-exits = (head_stop, start_inside, end_inside, outputs_from_lem, outputs_stop, last_inside, part_done, spliced_length)
+pub ruleset part_exits = (head_stop, start_inside, end_inside, outputs_from_lem, outputs_stop, last_inside, part_done, spliced_length)
 
 -- ---- parts_read
 pub record PartsKept (s : List ℕ) (from n : ℕ) (d t : List ℕ) (k : ℕ) (p : PartsSeen) : Type 0 where
@@ -268,4 +268,4 @@ module _ {s : List ℕ} {from n : ℕ} {d t : List ℕ} {k : ℕ} {p : PartsSeen
       pub parts_onward : {m : PartsSeen} → w ≡ At m → PartsKept s from n d u (k + 1) m
       parts_onward y = onward_by (rw y at x.is)
 
-pub ruleset parts-exits = (parts_begin, parts_end, part_room, more_same, parts_stop, parts_onward)
+pub ruleset parts_exits = (parts_begin, parts_end, part_room, more_same, parts_stop, parts_onward)

@@ -59,4 +59,4 @@ module _ {s : List ℕ} {from n id left at : ℕ} (p : IdsLeft s from n id left 
       unfolding has
       not_this q = record { room = omega (arith, p.room); rest = here ∙ rw (ne_eqb id v (λ x. q (sym x))) }
 
-pub ruleset source-exits = (source_begin, id_there, id_fits, no_source, a_source, not_this)
+pub ruleset source_exits = (source_begin, id_there, id_fits, no_source, a_source, not_this)

@@ -31,7 +31,7 @@ module _ {s : List ℕ} {n : ℕ} {t : List ℕ} (p : PartsHold s n t) {k : ℕ}
       let x : PartHeld s (get_or (job_of s).parts k nothing) r = rw (← e) at (hold_at 10 (PartIs s) p.rows l d) in
       record { part = get_or (job_of s).parts k nothing; is = rw (add-one k) d; held = x }
 
-pub ruleset part-exits = (part_room, part_found)
+pub ruleset part_exits = (part_room, part_found)
 
 -- ---- gap_at
 module _ {s : List ℕ} {m : ℕ} {t : List ℕ} (p : GapsHold s m t) {g : ℕ} (h : g < m) where
@@ -45,4 +45,4 @@ module _ {s : List ℕ} {m : ℕ} {t : List ℕ} (p : GapsHold s m t) {g : ℕ} 
       let x : GapHeld s (get_or (job_gaps s) g void) r = rw (← e) at (hold_at 6 (GapIs s) p.rows l d) in
       record { is = rw (x.is, add-one g) d; start = x.start; end = x.end }
 
-pub ruleset gap-exits = (gap_room, gap_found)
+pub ruleset gap_exits = (gap_room, gap_found)

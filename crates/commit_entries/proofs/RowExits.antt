@@ -33,7 +33,7 @@ module _ (k : Kind) (n : ℕ) where
   pub excluded_long : k ≡ Excluded → 2 + n ≡ bound_length k n
   excluded_long e = rw e
 
-pub ruleset bound-exits = (included_long, excluded_long)
+pub ruleset bound_exits = (included_long, excluded_long)
 
 -- ---- row_len
 module _ (r : Row) (s : RowSmall r) where
@@ -74,7 +74,7 @@ module _ (r : Row) (s : RowSmall r) where
   pub cut_fits : {n : ℕ} → n ≤ 524293 → Fits w64 (1 + (r.past - r.at) + n)
   cut_fits h = omega (arith, s.past)
 
-pub ruleset len-exits = (whole_long, output_long, cut_output_long, cut_long, whole_most, output_most, cut_output_most, cut_most, output_fits, cut_output_fits, cut_fits)
+pub ruleset len_exits = (whole_long, output_long, cut_output_long, cut_long, whole_most, output_most, cut_output_most, cut_most, output_fits, cut_output_fits, cut_fits)
 
 -- ---- keep_row
 module _ (d : List ℕ) (k : ℕ) (r : Row) where
@@ -87,7 +87,7 @@ module _ (d : List ℕ) (k : ℕ) (r : Row) where
   pub row_left : length d / 11 ≤ k → KeptRow k r d d
   row_left h = record { same = refl; put = λ l. absurd (omega arith) }
 
-pub ruleset keep-exits = (row_room, row_kept, row_left)
+pub ruleset keep_exits = (row_room, row_kept, row_left)
 
 -- ---- add_row
 module _ (p : Plan) (r : Row) where
@@ -105,7 +105,7 @@ module _ (p : Plan) (r : Row) where
       → Added r p d (record { rows = p.rows + 1; bytes = p.bytes + n; cuts = p.cuts; drawn = p.drawn; enough = p.enough }) t
   added k e l = record { kept = k; is = rw e; most = rw (← e) l }
 
-pub ruleset add-exits = (added_fits, bytes_fit, added)
+pub ruleset add_exits = (added_fits, bytes_fit, added)
 
 -- ---- next_ten
 module _ (old : ViewId) (ids : List ℕ) (p : Plan) where
@@ -123,7 +123,7 @@ module _ (old : ViewId) (ids : List ℕ) (p : Plan) where
   pub ten_before : p.enough ≡ false → TenFound old ids p (record { at = 0; plan = drew p p.drawn false })
   ten_before h = none_before h
 
-pub ruleset ten-exits = (ten_used, ten_fits, ten_found, ten_before)
+pub ruleset ten_exits = (ten_used, ten_fits, ten_found, ten_before)
 
 -- ---- add_cut
 drew_rows : {old : ViewId} {ids : List ℕ} {p : Plan} {x : Ten} → TenFound old ids p x → x.plan.rows ≡ p.rows
@@ -157,4 +157,4 @@ pub added_cut :
     → AddedCut old ids r p d q t
 added_cut {x} f a = record { ten = x; found = f; added = a }
 
-pub ruleset cut-exits = (cut_few, cut_rows, cut_short, with_ten_small, added_cut)
+pub ruleset cut_exits = (cut_few, cut_rows, cut_short, with_ten_small, added_cut)

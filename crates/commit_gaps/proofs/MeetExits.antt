@@ -87,7 +87,7 @@ module _ (r g : Range) (s : cmp_bound true r.start g.start ≡ Less) where
     pub ahead_empty : t ≡ false → MeetingIs r g Apart
     ahead_empty f = nothing (meets_none r g Second Second second_start (sym h ∙ k) (sym e ∙ f))
 
-pub ruleset ahead-exits = (starts_past, ahead_ends, ahead_through, ahead_empty)
+pub ruleset ahead_exits = (starts_past, ahead_ends, ahead_through, ahead_empty)
 
 -- ---- a range that starts in the gap
 not_before : (a b : Bound) → is_less (cmp_bound true a b) ≡ false → start_cut b ≼ start_cut a
@@ -124,7 +124,7 @@ module _ (r g : Range) {a : Side} (p : StartsWithin r g a) where
       pub within_behind : t ≡ false → MeetingIs r g Apart
       within_behind f = nothing (meets_none r g a Second (sym p.is) (sym h ∙ k) (rw own_start (sym e ∙ f)))
 
-pub ruleset within-exits = (within_whole, within_through, within_behind)
+pub ruleset within_exits = (within_whole, within_through, within_behind)
 
 -- ---- which of the two it is
 pub starts_before : (a b : Bound) {o : Order} → o ≡ cmp_bound true a b → o ≡ Less → cmp_bound true a b ≡ Less
@@ -139,4 +139,4 @@ module _ (r g : Range) {o : Order} (e : o ≡ cmp_bound true r.start g.start) wh
   unfolding start_side
   starts_after f n = record { passes = n; later = rw (← e, f); is = rw (← e, f) }
 
-pub ruleset meet-exits = (starts_before, starts_alike, starts_after)
+pub ruleset meet_exits = (starts_before, starts_alike, starts_after)

@@ -157,4 +157,4 @@ held_passes r s = go (non_empty r) refl
 pub gap_inside : {s : List ℕ} {g : ℕ} {b : RangeSpan} → GapFound s g b → Inside s b
 gap_inside f = record { start = f.start; end = f.end }
 
-pub ruleset next-exits = (seek, sought_all, sought_apart, sought_past, sought_more, sought_last, held_passes, gap_inside)
+pub ruleset next_exits = (seek, sought_all, sought_apart, sought_past, sought_more, sought_last, held_passes, gap_inside)

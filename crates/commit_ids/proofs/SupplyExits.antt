@@ -92,7 +92,7 @@ module _ {old ids : List ℕ} {from at : ℕ} (p : Drawing old ids from at) wher
       pub drawing_found : t ≡ true → DrawFound ids (draw (record { 0 = old }) (supply (drop from ids))) (At at)
       drawing_found e = record { meaning = sym (here ∙ rw (off (is_old (id_of old) (take 10 (drop at ids))) (old_is ∙ e))); inside = omega arith }
 
-pub ruleset drawing-exits = (drawing_begin, drawing_old, drawing_used, drawing_again, drawing_found)
+pub ruleset drawing_exits = (drawing_begin, drawing_old, drawing_used, drawing_again, drawing_found)
 
 -- ---- differ
 module _ (a b : List ℕ) {o : Order} (ho : o ≡ cmp_key a b) {t : Bool} (ht : t ≡ is_equal o) where

@@ -82,7 +82,7 @@ module _ {t : List ℕ} {n id i : ℕ} (p : NotYet t n id i) where
     pub not_this : (get_or t (i * 4) 0 ≡ id → ⊥) → NotYet t n id (i + 1)
     not_this e = record { room = p.room; none = unshared_more p.none h (λ q. e (sym (id_number n i t h) ∙ q)) }
 
-pub ruleset among-exits = (not_begin, not_all, row_in, row_place_fits, this_one, not_this)
+pub ruleset among_exits = (not_begin, not_all, row_in, row_place_fits, this_one, not_this)
 
 -- ---- shared_fault
 module _ (id n : ℕ) (t : List ℕ) {b : Bool} (e : b ≡ has id (row_ids n t)) where
@@ -94,7 +94,7 @@ module _ (id n : ℕ) (t : List ℕ) {b : Bool} (e : b ≡ has id (row_ids n t))
   unfolding fault_of
   unshared_id q = rw (← e, q)
 
-pub ruleset shared-exits = (shared_id, unshared_id)
+pub ruleset shared_exits = (shared_id, unshared_id)
 
 -- ---- run_judged
 -- a run's head is six bytes
@@ -146,7 +146,7 @@ module _ (s : List ℕ) (at : ℕ) {r : RunRead} (f : RunFound s (run_head.read 
                 };
           }
 
-pub ruleset run-exits = (head_stop, views_from, run_stop, run_done)
+pub ruleset run_exits = (head_stop, views_from, run_stop, run_done)
 
 -- ---- runs_indexed
 abbrev ids_of : List Run → List ℕ
@@ -238,4 +238,4 @@ module _ {s : List ℕ} {from n : ℕ} {d t : List ℕ} {k at fault : ℕ} (p : 
             rows = rw hu (rw p.count at o);
           }
 
-pub ruleset runs-exits = (runs_begin, ids_room, runs_end, row_room, row_same, runs_stop, runs_onward)
+pub ruleset runs_exits = (runs_begin, ids_room, runs_end, row_room, row_same, runs_stop, runs_onward)

@@ -84,7 +84,7 @@ module _ (s : List ℕ) {r : CountRead} (f : CountFound s ((up_to 1 64).read (dr
             same = x.same;
           }
 
-pub ruleset image-indexed-exits = (no_image, runs_from, runs_room, runs_stop, next_inside, left_over, image_done)
+pub ruleset image_indexed_exits = (no_image, runs_from, runs_room, runs_stop, next_inside, left_over, image_done)
 
 -- ---- indexed_run
 abbrev nothing : Run
@@ -112,6 +112,6 @@ module _ {s : List ℕ} {n : ℕ} {t : List ℕ} (p : IndexHold s n t) where
       let z : row_ids n t ≡ image_ids s = ap (λ m. row_ids m t) c ∙ held_ids s (image_of s) t p.rows in
       e ∙ ap (has id) z
 
-pub ruleset indexed-exits = (run_room, run_found)
+pub ruleset indexed_exits = (run_room, run_found)
 
-pub ruleset has-exits = (ids_room, run_there)
+pub ruleset has_exits = (ids_room, run_there)

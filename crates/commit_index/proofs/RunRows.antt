@@ -45,7 +45,7 @@ module _ (t : List ℕ) (k : ℕ) (h : k * 4 + 4 ≤ length t) where
       let e₃ = one_more t _ (k * 4) (r.id ∷ r.views ∷ []) r.first (k * 4 + 2) e₂ refl (omega arith) in
       one_more t _ (k * 4) (r.id ∷ r.views ∷ r.first ∷ []) r.past (k * 4 + 3) e₃ refl (omega arith)
 
-pub ruleset row-exits = (row_fits, row_read, second_in, third_in, fourth_in, row_put)
+pub ruleset row_exits = (row_fits, row_read, second_in, third_in, fourth_in, row_put)
 
 -- ---- the ids of the rows
 pub ids_length : (n : ℕ) (t : List ℕ) → length (row_ids n t) ≡ n

@@ -59,4 +59,4 @@ module _ {given s : List ℕ} {from m left at : ℕ} (p : SourcesLeft given s fr
       unfolding all
       one_is z = record { room = omega (arith, p.room); rest = here ∙ rw (← q, z) }
 
-pub ruleset source-exits = (sources_begin, id_there, id_fits, all_there, one_is_not, one_is)
+pub ruleset source_exits = (sources_begin, id_there, id_fits, all_there, one_is_not, one_is)

@@ -68,7 +68,7 @@ module _ (s : List ℕ) (t : TableSpan) (h : PartSpan) (i : IntervalHeld s h) wh
       let u : range_in s a b ≡ own (table_in s t) = rw (e, f) (own_is s t) in
       g ∙ ap (λ q. non_empty (overlap q (range_in s h.start h.end))) u ∙ ap (λ q. non_empty (overlap (own (table_in s t)) q)) i.range
 
-pub ruleset inside-exits = (own_first, own_last, inside_is)
+pub ruleset inside_exits = (own_first, own_last, inside_is)
 
 -- ---- ends_at
 module _ (s : List ℕ) (t : TableSpan) (b : BoundSpan) where
@@ -87,7 +87,7 @@ module _ (s : List ℕ) (t : TableSpan) (b : BoundSpan) where
   unfolding is_key
   last_is e ex ey eo er = rw (e, ← ex, ← ey, ← eo) er
 
-pub ruleset ends-exits = (no_last, last_is)
+pub ruleset ends_exits = (no_last, last_is)
 
 -- ---- published_as
 module _ (s : List ℕ) (t : TableSpan) (h : PartSpan) where
@@ -109,7 +109,7 @@ module _ (s : List ℕ) (t : TableSpan) (h : PartSpan) where
       unfolding published_as
       as_left w = rw (e, ← hb, q, ← hc, w)
 
-pub ruleset as-exits = (as_completed, as_whole, as_cut, as_left)
+pub ruleset as_exits = (as_completed, as_whole, as_cut, as_left)
 
 -- ---- plan_output
 pub entries_are : (cutting : Option Key) (iv : Interval) (t : Table) → output_entries cutting iv t ≡ entries_as iv t (published_as cutting iv t)
@@ -188,4 +188,4 @@ module _ (s : List ℕ) (at : ℕ) (t : TableSpan) (small : length s ≤ 262144)
           rw (entries_by, w)
           (planned_cut image s ids (identity (table_in s t)) (to_range (interval_in s h.start h.end)) bucket (output_row CutOutput h bucket at t.past) (cut_row_lem image) p d q u (rw (z, g) at a))
 
-pub ruleset output-exits = (output_small, output_id, output_left, output_whole, output_cut_lem)
+pub ruleset output_exits = (output_small, output_id, output_left, output_whole, output_cut_lem)

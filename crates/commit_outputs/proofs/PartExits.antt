@@ -106,4 +106,4 @@ module _ {s ids : List ℕ} {h : PartSpan} {b : ℕ} {p : Plan} {d : List ℕ} {
             ready = ready_most w (omega (arith, w.few, one_most s h (table_in s o)));
           }
 
-pub ruleset part-exits = (seen_begin, seen_same, seen_all, seen_here, seen_ready, seen_more_same, seen_onward)
+pub ruleset part_exits = (seen_begin, seen_same, seen_all, seen_here, seen_ready, seen_more_same, seen_onward)

@@ -171,4 +171,4 @@ module _ {s ids table_of : List ℕ} {n : ℕ} {d : List ℕ} {k i : ℕ} {q : P
   pub parts_bucket : k < n → i * 2 + 1 ≤ 129
   parts_bucket l = omega (arith, x.few, x.hold.most)
 
-pub ruleset parts-exits = (parts_begin, parts_same, parts_all, parts_interval, parts_there, parts_plan, parts_none, parts_more_same, parts_onward, parts_bucket)
+pub ruleset parts_exits = (parts_begin, parts_same, parts_all, parts_interval, parts_there, parts_plan, parts_none, parts_more_same, parts_onward, parts_bucket)

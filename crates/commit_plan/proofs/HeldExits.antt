@@ -59,4 +59,4 @@ module _ (s : List ℕ) (at : ℕ) {v : ViewSpan} (f : ViewThere s (view.read (d
           end = e.end;
         }
 
-pub ruleset held-exits = (held_behind, held_reached, held_at)
+pub ruleset held_exits = (held_behind, held_reached, held_at)

@@ -59,7 +59,7 @@ module _ {s : List ℕ} {h : PlanHead} (p : HeadHeld s h) (given ids : List ℕ)
     unfolding run_draws run_buckets
     one_source q w = record { kind = rw (no_destination, by_sources q); more = rw (no_destination, by_sources q) w }
 
-pub ruleset one-exits = (one_destination, one_other, one_source)
+pub ruleset one_exits = (one_destination, one_other, one_source)
 
 -- ---- run_size
 module _ {x : IndexedRun} {p q o : Plan} (y : SizeReady x p q o) where
@@ -79,7 +79,7 @@ module _ (k : RunKind) (x : IndexedRun) (p q o : Plan) where
   pub destination_size : k ≡ Destination → record { views = q.rows - p.rows + o.rows; bytes = q.bytes - p.bytes + o.bytes } ≡ size_by k x p q o
   destination_size e = rw e
 
-pub ruleset size-exits = (size_rows_fit, size_bytes_fit, other_size, source_size, destination_size)
+pub ruleset size_exits = (size_rows_fit, size_bytes_fit, other_size, source_size, destination_size)
 
 -- ---- count_run
 module _ (b : Bool) (n : ℕ) where
@@ -112,4 +112,4 @@ module _ {x : IndexedRun} {a : ImagePlan} {one : RunPlanned} {o : Plan} (y : Cou
         → RunCounted k x one a o d (record { plan = one.plan; outputs = a.outputs; bytes = a.bytes + 6 + z.bytes; fits = b }) t
     counted k d f g = record { is = rw (f, e); put = g }
 
-pub ruleset count-exits = (both_fit, none_fits, count_head_fits, count_fits, counted)
+pub ruleset count_exits = (both_fit, none_fits, count_head_fits, count_fits, counted)

@@ -153,4 +153,4 @@ module _ (s : List ℕ) (h : ViewHeld) (y : ViewReady s h) (gap : ℕ) where
       → PlannedPiece s ids h gap bounds x p d o t
   piece_cut_planned ids bounds p d {o} {t} {a = a} {b = b} e i f w x job q j z = piece_cut bounds a b job j ids p d q i (rw e at z) (rw (f, w) at x)
 
-pub ruleset piece-exits = (piece_id, whole_small, cut_small, piece_whole, piece_cut_planned)
+pub ruleset piece_exits = (piece_id, whole_small, cut_small, piece_whole, piece_cut_planned)

@@ -182,4 +182,4 @@ module _ {image job ids gap-table : List ℕ} {m first n : ℕ} {p : Plan} {d : 
               ready = ready_most z (omega (arith, z.few, entries_most (job_gaps job) (view_at image h.at), x.hold.count, x.hold.most));
             }
 
-pub ruleset run-exits = (run_begin, run_all, run_here, run_plan, run_behind, run_view, run_reached, run_more_same, run_onward)
+pub ruleset run_exits = (run_begin, run_all, run_here, run_plan, run_behind, run_view, run_reached, run_more_same, run_onward)

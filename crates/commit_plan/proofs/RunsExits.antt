@@ -289,4 +289,4 @@ module _ {given s ids gap-table index : List ℕ} {h : PlanHead} {o : Plan} {d e
                 same_rows = runs_more_rows;
               })
 
-pub ruleset runs-exits = (runs_begin, runs_plan, runs_all, runs_next, runs_room, runs_ready, runs_count, runs_more_rows, runs_more_same, runs_onward)
+pub ruleset runs_exits = (runs_begin, runs_plan, runs_all, runs_next, runs_room, runs_ready, runs_count, runs_more_rows, runs_more_same, runs_onward)

@@ -152,4 +152,4 @@ module _ {image job ids gap-table : List ℕ} {m : ℕ} {h : ViewHeld} {p : Plan
               ready = ready_most z (omega (arith, n, z.few));
             }
 
-pub ruleset view-exits = (view_begin, view_inside, view_held, view_plan, view_all, view_none, view_gap, view_bounds, view_less, view_next, view_more_same, view_onward)
+pub ruleset view_exits = (view_begin, view_inside, view_held, view_plan, view_all, view_none, view_gap, view_bounds, view_less, view_next, view_more_same, view_onward)

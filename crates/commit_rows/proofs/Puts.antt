@@ -42,7 +42,7 @@ form_other (suc (suc (suc (suc (suc (suc n)))))) a b c d e f = refl
 pub cut_form : (form : Form) {a b : Side} {n : ℕ} → form ≡ Cut a b → n ≡ cut_number a b → n ≡ form_number form
 cut_form form e f = f ∙ rw e
 
-pub ruleset form-exits = (form_3, form_4, form_5, form_other, cut_form)
+pub ruleset form_exits = (form_3, form_4, form_5, form_other, cut_form)
 
 -- ---- one number after others
 one_more : (t u : List ℕ) (at : ℕ) (xs : List ℕ) (b to : ℕ) → u ≡ splice t at xs → to ≡ at + length xs → at + length xs + 1 ≤ length t → set u to b ≡ splice t at (xs ++ (b ∷ []))
@@ -78,4 +78,4 @@ module _ (t : List ℕ) (at : ℕ) where
   pub four_put : (a b c d : ℕ) → at + 4 ≤ length t → set (set (set (set t at a) (at + 1) b) (at + 2) c) (at + 3) d ≡ splice t at (a ∷ b ∷ c ∷ d ∷ [])
   four_put a b c d h = one_more t (set (set (set t at a) (at + 1) b) (at + 2) c) at (a ∷ b ∷ c ∷ []) d (at + 3) (three_put a b c (omega arith)) refl (omega arith)
 
-pub ruleset put-exits = (second_in, third_in, second_of_four, third_of_four, fourth_in, bound_put, four_put)
+pub ruleset put_exits = (second_in, third_in, second_of_four, third_of_four, fourth_in, bound_put, four_put)

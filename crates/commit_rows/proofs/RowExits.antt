@@ -62,7 +62,7 @@ module _ (t : List ℕ) (g : ℕ) (h : g * 6 + 6 ≤ length t) where
     pub gap_put : {v : List ℕ} → v ≡ splice u (g * 6 + 3) (bound_numbers b) → v ≡ splice t (g * 6) (gap_numbers a b)
     gap_put f = f ∙ rw e (splice_splice t (g * 6) (bound_numbers a) (bound_numbers b) (g * 6 + 3) refl (omega arith))
 
-pub ruleset gap-exits = (gap_start_room, gap_end_room, gap_fits, gap_end_fits, gap_read, gap_rest_room, gap_put)
+pub ruleset gap_exits = (gap_start_room, gap_end_room, gap_fits, gap_end_fits, gap_read, gap_rest_room, gap_put)
 
 -- ---- parts
 module _ (t : List ℕ) (k : ℕ) (h : k * 10 + 10 ≤ length t) where
@@ -124,7 +124,7 @@ module _ (t : List ℕ) (k : ℕ) (h : k * 10 + 10 ≤ length t) where
           = g ∙ rw two (splice_splice t (k * 10) (front ++ bound_numbers p.start) (bound_numbers p.end) (k * 10 + 7) refl (omega arith)) in
           rw (← x, ← y) all
 
-pub ruleset part-exits = (part_front_room, part_start_room, part_end_room, part_fits, part_read_lem, part_start_put_room, part_end_put_room, part_put)
+pub ruleset part_exits = (part_front_room, part_start_room, part_end_room, part_fits, part_read_lem, part_start_put_room, part_end_put_room, part_put)
 
 -- ---- views
 module _ (t : List ℕ) (k : ℕ) (h : k * 11 + 11 ≤ length t) where
@@ -200,7 +200,7 @@ module _ (t : List ℕ) (k : ℕ) (h : k * 11 + 11 ≤ length t) where
             ∙ splice_splice t (k * 11) (front ++ bound_numbers r.start ++ bound_numbers r.end) (r.ten ∷ []) (k * 11 + 10) refl (omega arith) in
             rw (← x) all
 
-pub ruleset row-exits = (row_front_room, row_start_room, row_end_room, row_fits, row_read, row_start_put_room, row_end_put_room, row_ten_in, row_same, row_put)
+pub ruleset row_exits = (row_front_room, row_start_room, row_end_room, row_fits, row_read, row_start_put_room, row_end_put_room, row_ten_in, row_same, row_put)
 
 -- ---- runs
 pub other_kind : (n : ℕ) → (n ≡ 0 → ⊥) → (n ≡ 1 → ⊥) → Destination ≡ run_kind_of n
@@ -259,7 +259,7 @@ module _ (t : List ℕ) (k : ℕ) (h : k * 6 + 6 ≤ length t) where
         ∙ splice_splice t (k * 6) (front ++ (n ∷ [])) (r.rows ∷ []) (k * 6 + 5) refl (omega arith) in
         rw (← x) all
 
-pub ruleset run-exits = (other_kind, run_front_room, run_fits, run_read_lem, run_kind_in, run_rows_in, run_same, run_put)
+pub ruleset run_exits = (other_kind, run_front_room, run_fits, run_read_lem, run_kind_in, run_rows_in, run_same, run_put)
 
 -- ---- what was written is read again
 kind_back : (k : Kind) → kind_of (kind_number k) ≡ k

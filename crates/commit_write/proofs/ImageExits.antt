@@ -259,4 +259,4 @@ module _ {image job ids runs rows order : List ℕ} {c : Counts} {d : List ℕ} 
       pub image_same : length out ≡ length d
       image_same = putting_length p ∙ put_length count_put (first_room d 0 count every image_room)
 
-pub ruleset image-exits = (count_room, putting_begin, putting_length, putting_order, putting_row, putting_less, putting_fits, putting_more, image_put, image_same)
+pub ruleset image_exits = (count_room, putting_begin, putting_length, putting_order, putting_row, putting_less, putting_fits, putting_more, image_put, image_same)

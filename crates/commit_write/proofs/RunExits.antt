@@ -50,7 +50,7 @@ module _ (d : List ℕ) (to i n : ℕ) (h : to + 6 ≤ length d) {o : List ℕ} 
     pub head_same : length o' ≡ length d
     head_same = put_length head_put (rw (head_length i n) h)
 
-pub ruleset head-exits = (head_rest, head_put, head_same)
+pub ruleset head_exits = (head_rest, head_put, head_same)
 
 -- ---- a head and views, which are bytes that have room
 module _ (d : List ℕ) (to i n : ℕ) (vs : List ℕ) {x : List ℕ} (is : head_bytes i n ++ vs ≡ x) (room : to + length x ≤ length d) where
@@ -194,4 +194,4 @@ module _ {image job ids t order d : List ℕ} {r : RunRow} {at : Reached} (w : R
         pub source_same : length f ≡ length d
         source_same = put_length source_put w.room
 
-pub ruleset run-exits = (destination_few, destination_fits, destination_head_room, destination_buckets, destination_places, ordered_same, ordered_long, ordered_there, ordered_room, destination_put, destination_same, other_head, other_order, other_past, other_bytes_lem, put_same, same_room, same_length, source_few, source_there, source_head_room, source_views_room, source_put, source_same)
+pub ruleset run_exits = (destination_few, destination_fits, destination_head_room, destination_buckets, destination_places, ordered_same, ordered_long, ordered_there, ordered_room, destination_put, destination_same, other_head, other_order, other_past, other_bytes_lem, put_same, same_room, same_length, source_few, source_there, source_head_room, source_views_room, source_put, source_same)

@@ -54,7 +54,7 @@ module _ (d : List ℕ) (to : ℕ) (old : List ℕ) (ids : List ℕ) (ten : ℕ)
       pub id_same : length f ≡ length d
       id_same = both_length d to (take 6 old) (between ids ten (ten + 10)) room p q
 
-pub ruleset id-exits = (time_inside, time_room, ten_room, id_put, id_same)
+pub ruleset id_exits = (time_inside, time_room, ten_room, id_put, id_same)
 
 -- ---- put_flagged: one byte, and the range
 module _ (d : List ℕ) (to : ℕ) (x : List ℕ) (room : to + length (128 ∷ x) ≤ length d) where
@@ -75,7 +75,7 @@ module _ (d : List ℕ) (to : ℕ) (x : List ℕ) (room : to + length (128 ∷ x
       pub flagged_same : length f ≡ length d
       flagged_same = both_length d to (128 ∷ []) x room flag_put q
 
-pub ruleset flag-exits = (flag_room, flagged_room, flagged_put, flagged_same)
+pub ruleset flag_exits = (flag_room, flagged_room, flagged_put, flagged_same)
 
 -- ---- put_visible: the keys stand in the slices of their sides
 module _ (image job : List ℕ) (a b : Side) (r : Row) {s e : List ℕ} (x : s ≡ of a image job) (y : e ≡ of b image job) where
@@ -99,7 +99,7 @@ module _ (image job : List ℕ) (a b : Side) (r : Row) {s e : List ℕ} (x : s �
       pub visible_same : to + length (128 ∷ write_range (sided_range a b image job r)) ≤ length d → length f ≡ length d
       visible_same h = put_length p (visible_room d to h)
 
-pub ruleset visible-exits = (start_inside, end_inside, visible_room, visible_put, visible_same)
+pub ruleset visible_exits = (start_inside, end_inside, visible_room, visible_put, visible_same)
 
 -- ---- put_output: the id, the table, and one byte
 module _ (d : List ℕ) (to : ℕ) (job : List ℕ) (a b : ℕ) {id : List ℕ} (i : id ≡ take 16 (drop a job)) (room : to + length (whole_bytes (between job a (a + 16)) (between job a b)) ≤ length d) where
@@ -143,7 +143,7 @@ module _ (d : List ℕ) (to : ℕ) (job : List ℕ) (a b : ℕ) {id : List ℕ} 
         pub whole_same : length g ≡ length d
         whole_same = all_length d to id table (0 ∷ []) whole_roomy p q last
 
-pub ruleset output-exits = (whole_id_room, whole_table_room, whole_flag_room, whole_flag_fits, whole_put, whole_same)
+pub ruleset output_exits = (whole_id_room, whole_table_room, whole_flag_room, whole_flag_fits, whole_put, whole_same)
 
 -- ---- a row by its form
 module _ (image job ids : List ℕ) (r : Row) where
@@ -276,8 +276,8 @@ module _ (image job ids : List ℕ) (r : Row) where
               pub cut_same : length g ≡ length d
               cut_same = all_length d to x' y' z' cut_roomy p q t
 
-pub ruleset cut-output-exits = (whole_order, cut_output_inside, cut_output_id, cut_output_ten, cut_output_start, cut_output_end, cut_output_id_room, cut_output_table_room, cut_output_range_room, cut_output_put, cut_output_same)
+pub ruleset cut_output_exits = (whole_order, cut_output_inside, cut_output_id, cut_output_ten, cut_output_start, cut_output_end, cut_output_id_room, cut_output_table_room, cut_output_range_room, cut_output_put, cut_output_same)
 
-pub ruleset cut-exits = (output_id, cut_inside, cut_id, cut_ten, cut_start, cut_end, cut_id_room, cut_table_room, cut_range_room, cut_put, cut_same)
+pub ruleset cut_exits = (output_id, cut_inside, cut_id, cut_ten, cut_start, cut_end, cut_id_room, cut_table_room, cut_range_room, cut_put, cut_same)
 
-pub ruleset view-exits = (whole_inside, whole_order, output_id, output_inside, whole_bytes_lem, output_bytes, put_same, same_room, same_length, put_length)
+pub ruleset view_exits = (whole_inside, whole_order, output_id, output_inside, whole_bytes_lem, output_bytes, put_same, same_room, same_length, put_length)

@@ -128,7 +128,7 @@ module _ {image job ids t : List ℕ} (from n : ℕ) {d : List ℕ} {to : ℕ} {
       pub rows_more : {out' : List ℕ} {past' : ℕ} → Put out past (row_bytes image job ids r) out' past' → Writing image job ids t (count_from from n) d to out' (i + 1) past'
       rows_more u = writing_more p in_count number q u
 
-pub ruleset rows-exits = (rows_begin, writing_length, rows_put, rows_row, rows_fits, rows_inside, rows_room, rows_more)
+pub ruleset rows_exits = (rows_begin, writing_length, rows_put, rows_row, rows_fits, rows_inside, rows_room, rows_more)
 
 -- ---- put_in_order: the numbers are the first n of order
 module _ {image job ids t : List ℕ} (order : List ℕ) (n : ℕ) {d : List ℕ} {to : ℕ} {out : List ℕ} {i past : ℕ} (p : Writing image job ids t (take n order) d to out i past) where
@@ -162,4 +162,4 @@ module _ {image job ids t : List ℕ} (order : List ℕ) (n : ℕ) {d : List ℕ
         pub order_more : {out' : List ℕ} {past' : ℕ} → Put out past (row_bytes image job ids r) out' past' → Writing image job ids t (take n order) d to out' (i + 1) past'
         order_more u = writing_more p in_take number_at q u
 
-pub ruleset order-exits = (writing_begin, writing_length, order_put, order_in, order_row, order_inside, order_room, order_more)
+pub ruleset order_exits = (writing_begin, writing_length, order_put, order_in, order_row, order_inside, order_room, order_more)

@@ -174,5 +174,5 @@ pub ≼-before : {k : Key} {c : Cut} → c ≺ after k → c ≼ before k
     on true e = refl
     on false e = sym e
 
--- `search order-laws` proves a chain of hypotheses
-pub ruleset order-laws = (≼_trans, ≼_refl, ≺-≼, ≺-≼-trans, ≼-≺-trans, below-≼, ≼-above, after-≼, before-≺, ≼-before)
+-- `search order_laws` proves a chain of hypotheses
+pub ruleset order_laws = (≼_trans, ≼_refl, ≺-≼, ≺-≼-trans, ≼-≺-trans, below-≼, ≼-above, after-≼, before-≺, ≼-before)

@@ -81,7 +81,7 @@ module _ (a b : Key) where
   pub bounds_tested : (ka kb : Kind) {o : Order} {r : Bool} → o ≡ key_order ka a kb b → r ≡ passes ka kb o → r ≡ bounds_pass (bound_of ka a) (bound_of kb b)
   bounds_tested ka kb e g = g ∙ rw e (pass_factored ka kb)
 
-pub ruleset bound-exits = (keys_compared, first_unkeyed, second_unkeyed, bounds_compared, bounds_tested)
+pub ruleset bound_exits = (keys_compared, first_unkeyed, second_unkeyed, bounds_compared, bounds_tested)
 
 -- ---- the keys held
 module _ (s x : Key) {k : Kind} where
@@ -117,7 +117,7 @@ pub by_end : (r : Range) (x : Key) {t u : Bool} → t ≡ start_holds r.start x 
 unfolding holds
 by_end r x e h f = rw (← e, h, f)
 
-pub ruleset held-exits = (start_free, start_included, start_excluded, end_free, end_included, end_excluded, below_start, by_end)
+pub ruleset held_exits = (start_free, start_included, start_excluded, end_free, end_included, end_excluded, below_start, by_end)
 
 -- ---- are_adjacent
 module _ (a b : Key) (j k : Kind) where
@@ -150,7 +150,7 @@ module _ (a b : Key) (j k : Kind) where
   unfolding are_adjacent
   start_includes h l e g = rw (h, l, g, e)
 
-pub ruleset adjacent-exits = (end_unbounded, start_unbounded, both_included, both_excluded, end_includes, start_includes)
+pub ruleset adjacent_exits = (end_unbounded, start_unbounded, both_included, both_excluded, end_includes, start_includes)
 
 -- ---- two ranges
 of_bound : (s : Side) (ka kb : Kind) (a b : Key) → bound_of (of s ka kb) (of s a b) ≡ of s (bound_of ka a) (bound_of kb b)
@@ -202,4 +202,4 @@ module _ (ks : Kind) (s : Key) (ke : Kind) (e : Key) (js : Kind) (t : Key) (je :
     unfolding union_sides
     reversed k g d = rw (← ho, ← hl, k, d, g)
 
-pub ruleset pair-exits = (met, apart, united, joined, not_united, in_order, reversed)
+pub ruleset pair_exits = (met, apart, united, joined, not_united, in_order, reversed)

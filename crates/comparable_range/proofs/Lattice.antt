@@ -4,7 +4,7 @@ use mathlib.Core.Path.{◌≡◌}
 use mathlib.Core.Logic.{inl, inr}
 use mathlib.Core.Bool.{◌&&◌, ◌||◌}
 use Rattle.comparable_range.specs.Cut.{Cut, cut_at_most, ◌≼◌, ◌≺◌, later, sooner}
-use Rattle.comparable_range.proofs.Cut.{order-laws, order, ≼_refl, ≼-antisym, ≼_trans, ≺-≼, ≺-trans, ≺-≼-trans}
+use Rattle.comparable_range.proofs.Cut.{order_laws, order, ≼_refl, ≼-antisym, ≼_trans, ≺-≼, ≺-trans, ≺-≼-trans}
 
 pub later_right : {c d : Cut} → c ≼ d → later c d ≡ d
 unfolding later
@@ -59,7 +59,7 @@ sooner-≼-l c d h = ≼_trans (sooner-≼-left c d) h
 pub sooner-≼-r : (c d : Cut) {a : Cut} → d ≼ a → sooner c d ≼ a
 sooner-≼-r c d h = ≼_trans (sooner-≼-right c d) h
 
-pub ruleset lattice = (order-laws, ≼-later-l, ≼-later-r, sooner-≼-l, sooner-≼-r)
+pub ruleset lattice = (order_laws, ≼-later-l, ≼-later-r, sooner-≼-l, sooner-≼-r)
 
 -- ---- the tests
 -- at most the sooner is at most both

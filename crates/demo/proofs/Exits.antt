@@ -58,4 +58,4 @@ module _ {t p : List ℕ} {i : ℕ} (s : Searched t p i) where
             | inr b ↦ let c : i ≤ k = ltb-false k i b in let z : k ≡ i = omega arith in here (rw (sym z) q)
           ]
 
-pub ruleset search-exits = (begun, has_none, not_missing, too_few, ended, onward)
+pub ruleset search_exits = (begun, has_none, not_missing, too_few, ended, onward)

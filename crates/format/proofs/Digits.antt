@@ -81,4 +81,4 @@ module _ (s : List ℕ) (at n : ℕ) where
   unfolding read_number
   number_word w q h = rw (le-leb n (length (drop at s)) (rw length-drop (omega arith)), drop-drop, w.value, q)
 
-pub ruleset number-exits = (number_past, number_cut, number_is, number_read, number_word)
+pub ruleset number_exits = (number_past, number_cut, number_is, number_read, number_word)

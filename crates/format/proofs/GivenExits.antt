@@ -68,4 +68,4 @@ bad_kind l (suc zero) h = absurd (h.0.1 refl)
 bad_kind l (suc (suc zero)) h = absurd (h.1 refl)
 bad_kind l (suc (suc (suc n))) h = refl
 
-pub ruleset given-exits = (free_large, free_left, free_bound, in_long, in_bound, ex_long, ex_bound, bad_kind)
+pub ruleset given_exits = (free_large, free_left, free_bound, in_long, in_bound, ex_long, ex_bound, bad_kind)

@@ -85,7 +85,7 @@ module _ (a b : List ℕ) where
               };
         }
 
-pub ruleset joint-exits = (start_inside, end_inside, joint_sides_are, joint_none, joint_met)
+pub ruleset joint_exits = (start_inside, end_inside, joint_sides_are, joint_none, joint_met)
 
 -- ---- the promise
 bound_of_lem : (side : Side) (x y : Supply) → (of side x y).bound ≡ of side x.bound y.bound

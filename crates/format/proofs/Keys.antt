@@ -63,4 +63,4 @@ module _ (s : List ℕ) (at : ℕ) {o : Number} (e : number_of 2 s at o ≡ read
           inside = (refl, omega (arith, enough));
         }
 
-pub ruleset key-exits = (no_length, enough, start_fits, next_fits, too_long, cut, whole_key)
+pub ruleset key_exits = (no_length, enough, start_fits, next_fits, too_long, cut, whole_key)

@@ -138,4 +138,4 @@ module _ (d : List ℕ) (at : ℕ) (p q : List ℕ) (room : at + length (write_k
           ∙ rw a (splice_splice d at (n ++ p) q (at + 2 + length p) (omega (arith, b)) (omega (arith, b, size, room)) ∙ ap (splice d at) (append_assoc n p q))
           ∙ ap (λ k. splice d at (write_number 2 k ++ (p ++ q))) (sym (length-append p q))
 
-pub ruleset key-puts = (number_room, key_end_fits, first_place_fits, second_place_fits, key_end, first_room, second_room, key_put)
+pub ruleset key_puts = (number_room, key_end_fits, first_place_fits, second_place_fits, key_end, first_room, second_room, key_put)

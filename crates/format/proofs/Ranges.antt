@@ -110,7 +110,7 @@ module _ (k : Kind) (s : List ℕ) (at : ℕ) {t : Bool} (e : t ≡ is_keyed k) 
   without_key h l =
       record { meaning = sym (unkeyed_read k (drop at s) [] (sym e ∙ h)); inside = (rw add-zero l, l) }
 
-pub ruleset bound-exits = (no_key, with_key, without_key)
+pub ruleset bound_exits = (no_key, with_key, without_key)
 
 -- ---- ranges
 module _ (s : List ℕ) (at : ℕ) where
@@ -147,7 +147,7 @@ module _ (s : List ℕ) (at : ℕ) where
                 inside = (x.0, (y.0, y.1));
               }
 
-pub ruleset range-exits = (past_range, bad_head, bad_start, end_place_lem, bad_end, both_read)
+pub ruleset range_exits = (past_range, bad_head, bad_start, end_place_lem, bad_end, both_read)
 
 -- ---- a whole buffer
 module _ (s : List ℕ) where
@@ -174,7 +174,7 @@ module _ (s : List ℕ) where
             inside = x;
           }
 
-pub ruleset whole-exits = (too_large, not_read, bytes_left, all_read)
+pub ruleset whole_exits = (too_large, not_read, bytes_left, all_read)
 
 -- ---- parts
 pub part_is : (s : List ℕ) (at len : ℕ) → take (at + len - at) (drop at s) ≡ take len (drop at s)

@@ -41,7 +41,7 @@ module _ (a b : List ℕ) (x y : BoundSpan) {j k : Key} (p : j ≡ part a x) (q 
   pub end_in : {o : Side} → o ≡ end_side (bound_of x.kind j) (bound_of y.kind k) → o ≡ end_side (bound_in a x) (bound_in b y)
   end_in h = h ∙ rw (p, q)
 
-pub ruleset bound-pairs = (compared_in, passing_in, start_in, end_in)
+pub ruleset bound_pairs = (compared_in, passing_in, start_in, end_in)
 
 -- ---- ranges
 module _ (l : List ℕ) (r : RangeSpan) {x y : Key} (p : x ≡ part l r.start) (q : y ≡ part l r.end) where
@@ -55,7 +55,7 @@ module _ (l : List ℕ) (r : RangeSpan) {x y : Key} (p : x ≡ part l r.start) (
     pub union_in : w ≡ union_sides (range_of r.start.kind x r.end.kind y) (range_of s.start.kind u s.end.kind v) → w ≡ union_sides (range_in l r.start r.end) (range_in m s.start s.end)
     union_in h = h ∙ rw (p, q, g, d)
 
-pub ruleset span-exits = (held_in, meeting_in, union_in)
+pub ruleset span_exits = (held_in, meeting_in, union_in)
 
 -- ---- meets
 module _ (r q : Range) {w : Sides} (h : w ≡ intersect_sides r q) where
@@ -65,7 +65,7 @@ module _ (r q : Range) {w : Sides} (h : w ≡ intersect_sides r q) where
   pub meet : {s e : Side} → w ≡ From s e → true ≡ non_empty (overlap r q)
   meet {s} {e} k = sym (ap meets (sym h ∙ k)) ∙ meets_is r q
 
-pub ruleset meet-exits = (meet_not, meet)
+pub ruleset meet_exits = (meet_not, meet)
 
 -- ---- bound_of_lem, slice_of: the bound of a side stands in the slice of that side
 module _ (d : Side) (a b : List ℕ) (x y : BoundSpan) {s : List ℕ} {o : BoundSpan} (h : s ≡ of d a b) (k : o ≡ of d x y) where
@@ -101,7 +101,7 @@ module _ (s : List ℕ) (b : BoundSpan) {t : Bool} (e : t ≡ is_keyed b.kind) w
   pub without_key : t ≡ false → take 0 s ≡ bound_key (bound_in s b)
   without_key w = sym (no_key_back b.kind (part s b) (sym e ∙ w))
 
-pub ruleset key-exits = (with_key, without_key)
+pub ruleset key_exits = (with_key, without_key)
 
 -- ---- supplied_key
 module _ (a b : List ℕ) (x : Supplied) {s : List ℕ} (e : s ≡ of x.side a b) where
@@ -111,7 +111,7 @@ module _ (a b : List ℕ) (x : Supplied) {s : List ℕ} (e : s ≡ of x.side a b
   pub supply_key : {k : Key} → k ≡ bound_key (bound_in s x.bound) → k ≡ bound_key (supplied_bound a b x)
   supply_key q = q ∙ rw e
 
-pub ruleset supply-exits = (supply_inside, supply_key)
+pub ruleset supply_exits = (supply_inside, supply_key)
 
 -- ---- start_part, end_part
 module _ (a b : List ℕ) {r : Joined} where
@@ -141,4 +141,4 @@ module _ (a b : List ℕ) {r : Joined} where
     pub end_key_lem : k ≡ bound_key (supplied_bound a b y) → k ≡ key_of (end_key_of (joint_of a b r))
     end_key_lem h = h ∙ rw q
 
-pub ruleset part-exits = (start_place_lem, end_place_lem, stopped_start, stopped_end, no_start, no_end, start_key_lem, end_key_lem)
+pub ruleset part_exits = (start_place_lem, end_place_lem, stopped_start, stopped_end, no_start, no_end, start_key_lem, end_key_lem)

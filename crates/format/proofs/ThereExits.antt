@@ -74,7 +74,7 @@ module _ (s : List ℕ) (at : ℕ) (t : T (is_got (read_key (drop at s)))) where
           inside = omega (arith, length_there, rw length-drop at room);
         }
 
-pub ruleset key-there-exits = (length_there, key_fits, key_is)
+pub ruleset key_there_exits = (length_there, key_fits, key_is)
 
 -- ---- kind_of
 pub kind_free : (n : ℕ) → n ≡ 0 → Unbounded ≡ kind_of n
@@ -88,7 +88,7 @@ kind_excluded zero a b = absurd (a refl)
 kind_excluded (suc zero) a b = absurd (b refl)
 kind_excluded (suc (suc n)) a b = refl
 
-pub ruleset kind-exits = (kind_free, kind_included, kind_excluded)
+pub ruleset kind_exits = (kind_free, kind_included, kind_excluded)
 
 -- ---- bound_there
 module _ (k : Kind) (s : List ℕ) (at : ℕ) {t : Bool} (e : t ≡ is_keyed k) where
@@ -102,7 +102,7 @@ module _ (k : Kind) (s : List ℕ) (at : ℕ) {t : Bool} (e : t ≡ is_keyed k) 
   bound_free h l =
       record { meaning = rw add-zero (unkeyed_read k (drop at s) [] (sym e ∙ h)); inside = rw add-zero l }
 
-pub ruleset bound-there-exits = (key_got_lem, bound_keyed, bound_free)
+pub ruleset bound_there_exits = (key_got_lem, bound_keyed, bound_free)
 
 -- ---- a range that is there: its head byte names two kinds, and a bound of each follows
 heads : (a b c : Bool) (h : Head) (l : List ℕ) → T (is_got (headed (pick a (pick b (pick c h (HeadStop 2)) (HeadStop 2)) (HeadStop 2)) l)) → pick a (pick b (pick c h (HeadStop 2)) (HeadStop 2)) (HeadStop 2) ≡ h
@@ -160,4 +160,4 @@ module _ (s : List ℕ) (at : ℕ) (t : T (is_got (read_range (drop at s)))) whe
       pub range_is : {c : BoundSpan} → BoundThere s (read_bound k (drop (b.at + b.len) s)) c → read_range (drop at s) ≡ got (range_in s b c) (drop (c.at + c.len) s)
       range_is g = both_opened ∙ rw (f.meaning, g.meaning)
 
-pub ruleset range-there-exits = (head_there, bounds_place, start_got, end_got)
+pub ruleset range_there_exits = (head_there, bounds_place, start_got, end_got)

@@ -130,4 +130,4 @@ module _ (t out : List ℕ) where
             pub made_lent : {o : List ℕ} → o ≡ lent out (written_to (length out) (plan.write (job_ranges t))) → o ≡ lent out (from_compaction_outcome t (length out))
             made_lent z = z ∙ sym (ap (lent out) made)
 
-pub ruleset call-exits = (long_reported, long_lent, read_reported, read_lent, fault_reported, fault_lent, sources_inside, parts_there, no_source_reported, no_source_lent, late_reported, late_lent, made_reported, made_lent)
+pub ruleset call_exits = (long_reported, long_lent, read_reported, read_lent, fault_reported, fault_lent, sources_inside, parts_there, no_source_reported, no_source_lent, late_reported, late_lent, made_reported, made_lent)

@@ -61,7 +61,7 @@ module _ (s : List ℕ) (p : PartSpan) {k l : Key} (u : k ≡ take p.start.len (
       pub part_same : to + length (write_range (range_in s p.start p.end)) ≤ length d → length f ≡ length d
       part_same h = put_length q (part_room h)
 
-pub ruleset part-exits = (start_short, end_short, part_sized, part_room, part_put, part_same)
+pub ruleset part_exits = (start_short, end_short, part_sized, part_room, part_put, part_same)
 
 -- ---- the ranges from part k on
 abbrev left_of : List ℕ → ℕ → Plan
@@ -149,7 +149,7 @@ module _ {s : List ℕ} {n count bytes k : ℕ} (p : Measuring s n count bytes k
               long = omega (arith, p.long, b, y.is);
             }
 
-pub ruleset measure-exits = (measure_begin, measure_end, measure_fits, measure_none, measure_sum, measure_one, start_in, end_in)
+pub ruleset measure_exits = (measure_begin, measure_end, measure_fits, measure_none, measure_sum, measure_one, start_in, end_in)
 
 -- ---- put_ranges
 pub record Putting (s : List ℕ) (n : ℕ) (d : List ℕ) (first : ℕ) (out : List ℕ) (to k : ℕ) : Type 0 where
@@ -209,7 +209,7 @@ module _ {s : List ℕ} {n : ℕ} {d : List ℕ} {first : ℕ} {out : List ℕ} 
       pub put_more_length : {out' : List ℕ} {to' : ℕ} → Put out to (write_range (range_in s x.start x.end)) out' to' → length out' ≡ length d
       put_more_length y = put_length y put_room ∙ put_same_length
 
-pub ruleset put-exits = (put_begin, put_same_length, put_end, put_skip, put_room, put_more, put_more_length, start_in, end_in)
+pub ruleset put_exits = (put_begin, put_same_length, put_end, put_skip, put_room, put_more, put_more_length, start_in, end_in)
 
 -- ---- write_ranges
 module _ {s : List ℕ} {m : Measure} (p : Measured s m) where
@@ -249,4 +249,4 @@ module _ {s : List ℕ} {m : Measure} (p : Measured s m) where
         pub write_all : v ≡ m.count → f ≡ over (plan.write (job_ranges s)) d
         write_all c = (put_same all_put (ap (λ n. write_number 1 n ++ ranges_bytes (job_ranges s)) c ∙ sym plan_is)).is ∙ rw zero-add
 
-pub ruleset write-exits = (write_fits, write_size, write_count_room, write_room, write_all, write_same)
+pub ruleset write_exits = (write_fits, write_size, write_count_room, write_room, write_all, write_same)

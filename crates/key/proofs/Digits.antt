@@ -180,6 +180,6 @@ reversed_equal (x ∷ k) (y ∷ l) b c e q =
     let s : x ≡ y = omega arith in
     rw (s, reversed_equal k l (bytes_tail b) (bytes_tail c) (omega arith) r)
 
-pub ruleset number-exits = (less, greater, equal)
+pub ruleset number_exits = (less, greater, equal)
 
-pub ruleset word-exits = (four, two_halves, eight_reversed)
+pub ruleset word_exits = (four, two_halves, eight_reversed)

@@ -69,9 +69,9 @@ module _ (s : List ℕ) (b : BoundSpan) where
   unfolding end_text
   end_ex e h = rw (e, length-append) (omega (arith, hex_key s b h))
 
-pub ruleset start-exits = (key_fits, start_fits, start_free, start_in, start_ex)
+pub ruleset start_exits = (key_fits, start_fits, start_free, start_in, start_ex)
 
-pub ruleset end-exits = (key_fits, end_fits, end_free, end_in, end_ex)
+pub ruleset end_exits = (key_fits, end_fits, end_free, end_in, end_ex)
 
 -- ---- no text of a bound is longer than this
 start_most : (s : List ℕ) (b : BoundSpan) → BoundInside s b → length s ≤ 65536 → length (start_text (bound_in s b)) ≤ 131073
@@ -145,4 +145,4 @@ module _ (s : List ℕ) (v : ViewSpan) (id place : ℕ) (p : ViewInside s v) {e 
       pub ends_fit : {d : ℕ} → d ≡ length (end_text (bound_in s e.end)) → Fits w64 (a + b + 37 + c + d)
       ends_fit hd = omega (arith, decimal_most id, decimal_most place, start_most s e.start x.start l, end_most s e.end x.end l)
 
-pub ruleset line-exits = (start_inside, end_inside, line_is, line_most, numbers_fit, id_fits, starts_fit, ends_fit)
+pub ruleset line_exits = (start_inside, end_inside, line_is, line_most, numbers_fit, id_fits, starts_fit, ends_fit)

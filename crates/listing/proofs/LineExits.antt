@@ -87,7 +87,7 @@ module _ (s d : List ℕ) (b : BoundSpan) (at : ℕ) (room : at + length (spaced
     pub ex_put : {g : List ℕ} → b.kind ≡ Excluded → f ≡ splice d at (40 ∷ []) → g ≡ splice f (at + 1) (spaced (hex k)) → g ≡ splice d at (spaced (start_text (bound_in s b)))
     ex_put e p z = rest_put d at (spaced (start_text (bound_in s b))) (40 ∷ []) (spaced (hex k)) (bracket 40 q (ex_text e)) room p refl z
 
-pub ruleset start-put-exits = (dash_room, dash_past, dash_put, in_room, ex_room, in_key_room, in_past, in_put, ex_key_room, ex_past, ex_put)
+pub ruleset start_put_exits = (dash_room, dash_past, dash_put, in_room, ex_room, in_key_room, in_past, in_put, ex_key_room, ex_past, ex_put)
 
 -- ---- put_end
 module _ (s d : List ℕ) (b : BoundSpan) (at : ℕ) (room : at + length (closed (end_text (bound_in s b))) ≤ length d) where
@@ -137,7 +137,7 @@ module _ (s d : List ℕ) (b : BoundSpan) (at : ℕ) (room : at + length (closed
       pub ex_end_put : {g : List ℕ} → b.kind ≡ Excluded → g ≡ splice f to (41 ∷ 10 ∷ []) → g ≡ splice d at (closed (end_text (bound_in s b)))
       ex_end_put e z = rest_put d at (closed (end_text (bound_in s b))) (hex k) (41 ∷ 10 ∷ []) (ex_end e) room p t z
 
-pub ruleset end-put-exits = (end_dash_room, end_dash_past, end_dash_put, in_hex_room, ex_hex_room, in_two_room, ex_two_room, in_end_past, ex_end_past, in_end_put, ex_end_put)
+pub ruleset end_put_exits = (end_dash_room, end_dash_past, end_dash_put, in_hex_room, ex_hex_room, in_two_room, ex_two_room, in_end_past, ex_end_past, in_end_put, ex_end_put)
 
 -- ---- put_names
 module _ (d : List ℕ) (at id place : ℕ) (k : List ℕ) (room : at + length (names id place k) ≤ length d) where
@@ -169,7 +169,7 @@ module _ (d : List ℕ) (at id place : ℕ) (k : List ℕ) (room : at + length (
           rest_put d at (names id place k) (spaced (decimal id)) (spaced (decimal place) ++ spaced (hex k)) three room p t
           (both_put f a (spaced (decimal place)) (spaced (hex k)) left p' t' q)
 
-pub ruleset names-exits = (id_room, place_room, table_room, names_past, names_put)
+pub ruleset names_exits = (id_room, place_room, table_room, names_past, names_put)
 
 -- ---- put_bounds
 module _ (s d : List ℕ) (b c : BoundSpan) (at : ℕ) (room : at + length (bounds_text (range_in s b c)) ≤ length d) where
@@ -190,7 +190,7 @@ module _ (s d : List ℕ) (b c : BoundSpan) (at : ℕ) (room : at + length (boun
     pub bounds_put : {l : List ℕ} → l ≡ splice f a (closed (end_text (bound_in s c))) → l ≡ splice d at (bounds_text (range_in s b c))
     bounds_put q = rest_put d at (bounds_text (range_in s b c)) (spaced (start_text (bound_in s b))) (closed (end_text (bound_in s c))) two room p t q
 
-pub ruleset bounds-exits = (start_room, end_room, bounds_past, bounds_put)
+pub ruleset bounds_exits = (start_room, end_room, bounds_past, bounds_put)
 
 -- ---- put_line
 module _ (s d : List ℕ) (v : ViewSpan) (id place at : ℕ) {e : RangeSpan} {k : List ℕ} (x : EffectiveFound s v e) (h : k ≡ take 16 (drop v.table.id s)) (room : at + length (line id place (view_in s v)) ≤ length d) where
@@ -220,4 +220,4 @@ end_inside x = x.end
 pub id_inside : {s : List ℕ} (v : ViewSpan) → ViewInside s v → v.table.id + 16 ≤ length s
 id_inside v p = p.table.id
 
-pub ruleset line-put-exits = (names_room, bounds_room, line_past, line_put, start_inside, end_inside, id_inside)
+pub ruleset line_put_exits = (names_room, bounds_room, line_past, line_put, start_inside, end_inside, id_inside)

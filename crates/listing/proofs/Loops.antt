@@ -82,7 +82,7 @@ module _ {s : List ℕ} {from n id place at to : ℕ} (p : ViewsLen s from n id 
               bound = omega (arith, p.bound, e.1);
             }
 
-pub ruleset views-len-exits = (views_len_begin, views_len_at, views_len_end, views_len_bound, views_len_here, views_len_inside, views_len_fits, views_len_onward)
+pub ruleset views_len_exits = (views_len_begin, views_len_at, views_len_end, views_len_bound, views_len_here, views_len_inside, views_len_fits, views_len_onward)
 
 -- ---- runs_len
 pub record RunsLen (s : List ℕ) (from n k at to : ℕ) : Type 0 where
@@ -135,7 +135,7 @@ module _ {s : List ℕ} {from n k at to : ℕ} (p : RunsLen s from n k at to) wh
               bound = omega (arith, p.bound, b);
             }
 
-pub ruleset runs-len-exits = (runs_len_begin, runs_len_at, runs_len_end, runs_len_bound, runs_len_here, runs_len_from, runs_len_views, runs_len_there, runs_len_fits, runs_len_onward)
+pub ruleset runs_len_exits = (runs_len_begin, runs_len_at, runs_len_end, runs_len_bound, runs_len_here, runs_len_from, runs_len_views, runs_len_there, runs_len_fits, runs_len_onward)
 
 -- ---- put_views
 pub record ViewsPut (s : List ℕ) (from n id : ℕ) (d : List ℕ) (first : ℕ) (out : List ℕ) (place at to : ℕ) : Type 0 where
@@ -203,7 +203,7 @@ module _ {s : List ℕ} {from n id : ℕ} {d : List ℕ} {first : ℕ} {out : Li
             is = o ∙ ap (λ l. splice l to (line id place (view_in s v))) p.is ∙ splice_splice d first (lines id 0 p.seen) (line id place (view_in s v)) to p.long (omega (arith, fits)) ∙ ap (splice d first) (sym more);
           }
 
-pub ruleset views-put-exits = (views_put_begin, views_put_at, views_put_length, views_put_end, views_put_is, views_put_here, views_put_inside, views_put_room, views_put_onward)
+pub ruleset views_put_exits = (views_put_begin, views_put_at, views_put_length, views_put_end, views_put_is, views_put_here, views_put_inside, views_put_room, views_put_onward)
 
 -- ---- put_runs
 pub record RunsPut (s : List ℕ) (from n : ℕ) (d : List ℕ) (first : ℕ) (out : List ℕ) (k at to : ℕ) : Type 0 where
@@ -274,4 +274,4 @@ module _ {s : List ℕ} {from n : ℕ} {d : List ℕ} {first : ℕ} {out : List 
             is = o ∙ ap (λ l. splice l to (lines r.id 0 vs)) p.is ∙ splice_splice d first (run_lines p.seen) (lines r.id 0 vs) to p.long (omega (arith, fits_run)) ∙ ap (splice d first) (sym more);
           }
 
-pub ruleset runs-put-exits = (runs_put_begin, runs_put_at, runs_put_length, runs_put_is, runs_put_here, runs_put_from, runs_put_there, runs_put_room, runs_put_onward)
+pub ruleset runs_put_exits = (runs_put_begin, runs_put_at, runs_put_length, runs_put_is, runs_put_here, runs_put_from, runs_put_there, runs_put_room, runs_put_onward)

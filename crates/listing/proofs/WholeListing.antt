@@ -59,6 +59,6 @@ module _ {s : List ℕ} (t : T (is_got (image.read s))) {n : ℕ} (f : RunsThere
 pub lines_fit : {k : ℕ} → k ≤ 17185046528 → Fits w64 (25 + k)
 lines_fit h = omega arith
 
-pub ruleset listing-len-exits = (runs_from, runs_most, runs_there, all_measured, lines_fit)
+pub ruleset listing_len_exits = (runs_from, runs_most, runs_there, all_measured, lines_fit)
 
-pub ruleset listing-put-exits = (runs_from, runs_there, header_room, runs_room, all_put)
+pub ruleset listing_put_exits = (runs_from, runs_there, header_room, runs_room, all_put)

@@ -66,4 +66,4 @@ module _ (t b : ℕ) where
   unfolding least
   sum_reached h k = rw (le-ltb (t + b) (2 ^ 63) (omega arith))
 
-pub ruleset added-exits = (within_limit, sum_fits, sum_exact, sum_reached)
+pub ruleset added_exits = (within_limit, sum_fits, sum_exact, sum_reached)

@@ -36,7 +36,7 @@ module _ (s : List ℕ) (v : ViewSpan) where
   unfolding visible_passes
   passes_hidden e = rw e
 
-pub ruleset visible-exits = (passes_shown, passes_hidden)
+pub ruleset visible_exits = (passes_shown, passes_hidden)
 
 -- ---- keys_in_order
 module _ (s : List ℕ) (t : TableSpan) where
@@ -50,7 +50,7 @@ module _ (s : List ℕ) (t : TableSpan) where
   in_order {a} {b} {r} h l e =
       e ∙ ap (λ c. non_empty (range_in s c b)) h ∙ ap (λ c. non_empty (range_in s (first_span t) c)) l ∙ ap non_empty (own_in s t) ∙ own_passes (table_in s t)
 
-pub ruleset keys-exits = (first_is_in, last_is_in, in_order)
+pub ruleset keys_exits = (first_is_in, last_is_in, in_order)
 
 -- ---- table_passes
 plain_kind_lem : (k : Kind) (x : List ℕ) → plain_kind k ≡ not (is_excluded (bound_of k x))
@@ -72,7 +72,7 @@ module _ (s : List ℕ) (v : ViewSpan) {p : Bool} (q : p ≡ plain_start v) wher
   pub tested : {r : RangeSpan} {m : Bool} → p ≡ true → EffectiveFound s v r → m ≡ non_empty (range_in s r.start r.end) → m ≡ table_passes (view_in s v)
   tested z f w = sym (both ∙ rw z (sym (w ∙ ap non_empty f.meaning)))
 
-pub ruleset table-exits = (excluded_start, tested)
+pub ruleset table_exits = (excluded_start, tested)
 
 -- ---- size_passes
 pub size_over : (o n : ℕ) → 9007199254740992 < o → false ≡ size_fits o n
@@ -87,7 +87,7 @@ pub size_past : (o n : ℕ) → o ≤ 9007199254740992 → 9007199254740992 - o 
 unfolding size_fits
 size_past o n h k = rw (lt-leb (o + n) (2 ^ 53) (omega arith))
 
-pub ruleset size-exits = (size_over, size_within_lem, size_past)
+pub ruleset size_exits = (size_over, size_within_lem, size_past)
 
 -- ---- view_fault
 module _ (s : List ℕ) (v : ViewSpan) {a : Bool} (ha : a ≡ visible_passes (view_in s v)) where
@@ -113,7 +113,7 @@ module _ (s : List ℕ) (v : ViewSpan) {a : Bool} (ha : a ≡ visible_passes (vi
       unfolding fault_of view_checks
       fault_none g = rw (← ha, e, ← hb, f, size_is, g)
 
-pub ruleset fault-exits = (fault_4, fault_5, fault_7, fault_none)
+pub ruleset fault_exits = (fault_4, fault_5, fault_7, fault_none)
 
 -- ---- order_fault, lesser
 module _ (s : List ℕ) (a b : BoundSpan) {o : Order} {t : Bool} (h : o ≡ cmp_bound true (bound_in s a) (bound_in s b)) (w : t ≡ at_most o) where
@@ -128,7 +128,7 @@ module _ (s : List ℕ) (a b : BoundSpan) {o : Order} {t : Bool} (h : o ≡ cmp_
   unfolding fault_of
   descends e = rw (order_is, e)
 
-pub ruleset order-exits = (ascends, descends)
+pub ruleset order_exits = (ascends, descends)
 
 pub first_least : (a b : ℕ) → a < b → a ≡ least a b
 unfolding least
@@ -138,4 +138,4 @@ pub second_least : (a b : ℕ) → b ≤ a → b ≡ least a b
 unfolding least
 second_least a b h = rw (le-ltb a b h)
 
-pub ruleset least-exits = (first_least, second_least)
+pub ruleset least_exits = (first_least, second_least)

@@ -93,7 +93,7 @@ module _ {s : List ℕ} {from n left at fault : ℕ} {before : BoundSpan} (p : V
             last_in_lem = e.inside;
           }
 
-pub ruleset views-exits = (views_begin, views_at_lem, before_in, views_end, views_stop, view_inside, views_onward)
+pub ruleset views_exits = (views_begin, views_at_lem, before_in, views_end, views_stop, view_inside, views_onward)
 
 -- ---- shared_fault
 pub record Unshared (l : List ℕ) (n id i : ℕ) : Type 0 where
@@ -124,7 +124,7 @@ module _ {l : List ℕ} {n id i : ℕ} (p : Unshared l n id i) where
   unfolding fault_of has
   unshared_all h = rw (p.rest, le_antisymm p.upto h, slice_empty)
 
-pub ruleset shared-exits = (unshared_none, id_in, shared, unshared_more, unshared_all)
+pub ruleset shared_exits = (unshared_none, id_in, shared, unshared_more, unshared_all)
 
 -- ---- runs_judged
 -- an answer's place and number are those of a value that was read
@@ -228,7 +228,7 @@ module _ {s : List ℕ} {from n : ℕ} {ids : List ℕ} {k at fault : ℕ} (p : 
               kept = rw (add-one, take-suc-set ids k i l, p.kept) (sym (map-append _ p.runs (run_of i j.value ∷ [])));
             }
 
-pub ruleset runs-exits = (runs_begin, runs_at, ids_in, id_place, runs_end, head_stop, views_from, run_stop, runs_onward)
+pub ruleset runs_exits = (runs_begin, runs_at, ids_in, id_place, runs_end, head_stop, views_from, run_stop, runs_onward)
 
 -- ---- image_front
 counted_within : (most : ℕ) (t : Bool) (w n : ℕ) (l r : List ℕ) → t ≡ leb w most → got n r ≡ taken (check 3 t (answer w)) l → n ≤ most
@@ -256,4 +256,4 @@ count_most {s} {r} {n} {first} f q = count_within 64 (read_number 1 (drop 0 s)) 
 pub first_place : {s : List ℕ} {r : CountRead} {n first : ℕ} → CountFound s ((up_to 1 64).read (drop 0 s)) r → r ≡ CountAt n first → first ≤ length s
 first_place f q = rw q at f.inside
 
-pub ruleset image-exits = (no_runs_lem, all_runs, count_most, first_place)
+pub ruleset image_exits = (no_runs_lem, all_runs, count_most, first_place)

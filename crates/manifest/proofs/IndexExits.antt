@@ -100,7 +100,7 @@ module _ {s : List ℕ} {from n left at fault : ℕ} {before : BoundSpan} (p : B
             last_in_lem = first_in;
           }
 
-pub ruleset blocks-exits = (blocks_begin, blocks_at, before_in, blocks_end, blocks_stop, first_in, blocks_onward)
+pub ruleset blocks_exits = (blocks_begin, blocks_at, before_in, blocks_end, blocks_stop, first_in, blocks_onward)
 
 -- ---- index_at
 module _ (s : List ℕ) (at : ℕ) where
@@ -123,4 +123,4 @@ module _ (s : List ℕ) (at : ℕ) where
       let z : index.read (drop at s) ≡ read_many block.read n (drop (at + 2) s) = index_is (drop at s) ∙ rw e in
       record { meaning = x.meaning ∙ sym (ap (faults index_checks) z); inside = x.inside }
 
-pub ruleset index-exits = (no_blocks, count_there, blocks_fit, index_read)
+pub ruleset index_exits = (no_blocks, count_there, blocks_fit, index_read)

@@ -29,7 +29,7 @@ with_last f i n e = rw e
 pub without_last : (f : Bool) (i n : ℕ) → f ≡ false → span Unbounded i n ≡ span (last_kind f) i n
 without_last f i n e = rw e
 
-pub ruleset own-exits = (with_last, without_last)
+pub ruleset own_exits = (with_last, without_last)
 
 -- ---- effective
 of_in : (s : List ℕ) (d : Side) (a b : BoundSpan) → bound_in s (of d a b) ≡ of d (bound_in s a) (bound_in s b)
@@ -109,7 +109,7 @@ module _ (s : List ℕ) (v : ViewSpan) (p : ViewInside s v) where
     pub end_cut_lem : {d : BoundSpan} {k : Side} → v.shown ≡ true → k ≡ end_side (bound_in s b) (bound_in s v.end) → d ≡ of k b v.end → BoundFound s (effective (view_in s v)).end d
     end_cut_lem e i y = let f = shown s v p refl l e refl refl i y in record { is = ap (λ (r : Range). r.end) f.meaning; inside = f.end }
 
-pub ruleset bound-exits = (first_inside, last_inside, start_inside, end_inside, start_own, start_cut_lem, end_own, end_cut_lem)
+pub ruleset bound_exits = (first_inside, last_inside, start_inside, end_inside, start_own, start_cut_lem, end_own, end_cut_lem)
 
 pub both_bounds : (s : List ℕ) (v : ViewSpan) {a b : BoundSpan} → BoundFound s (effective (view_in s v)).start a → BoundFound s (effective (view_in s v)).end b → EffectiveFound s v (record { start = a; end = b })
 both_bounds s v f g = record { meaning = rw (f.is, g.is); start = f.inside; end = g.inside }

@@ -32,7 +32,7 @@ module _ (n : ℕ) {r : Judged} where
 pub next_inside : (s : List ℕ) (r : Judged) {next fault : ℕ} → r ≡ At next fault → JudgedInside s r → next ≤ length s
 next_inside s r q h = rw q at h
 
-pub ruleset ended-exits = (ended_stop, ended_left, ended_all, next_inside)
+pub ruleset ended_exits = (ended_stop, ended_left, ended_all, next_inside)
 
 -- ---- the whole of a buffer
 module _ {A : Type 0} (checks : A → Checks) (read : List ℕ → Got A) (s : List ℕ) where
@@ -71,4 +71,4 @@ module _ {A : Type 0} (checks : A → Checks) (read : List ℕ → Got A) (s : L
     pub whole_ended : {w z : Judged} → JudgedFound s (faults checks (read s)) w → z ≡ ended_by (length s) w → JudgedWhole s checks (whole read s) z
     whole_ended {w} x e = rw e (by_cases w x)
 
-pub ruleset whole-exits = (whole_large, whole_ended)
+pub ruleset whole_exits = (whole_large, whole_ended)

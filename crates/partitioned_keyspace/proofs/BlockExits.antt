@@ -163,7 +163,7 @@ module _ {s : List ℕ} {from n : ℕ} {start end : Key} {x : IndexPoints} {befo
           → BlocksSeen s from n start end y first next (left - 1)
       blocks_onward e hb hk hy = rw e (onward_from hb (rw e at hk) hy)
 
-pub ruleset blocks-exits = (blocks_begin, blocks_at, before_in, block_room, blocks_left, blocks_all, blocks_stop, first_in, blocks_onward)
+pub ruleset blocks_exits = (blocks_begin, blocks_at, before_in, block_room, blocks_left, blocks_all, blocks_stop, first_in, blocks_onward)
 
 -- ---- index_read
 module _ (s : List ℕ) (start end : Key) where
@@ -184,4 +184,4 @@ module _ (s : List ℕ) (start end : Key) where
     unfolding whole
     index_whole {n} e x = x ∙ rw (le-leb (length s) 65536 l, index_is s, e)
 
-pub ruleset index-exits = (index_large, no_count, index_whole)
+pub ruleset index_exits = (index_large, no_count, index_whole)

@@ -119,7 +119,7 @@ module _ (l k : List ℕ) (w : Reading) (h : reading_of w ≡ points_in k [] (wh
           let t : ascends (first_keys read.value) ≡ true = sym (ap (λ y. y.ascends) read.points) ∙ d in
           ap (λ y. answer y.start) read.points ∙ sym (asked_is l k point_asked ∙ rw (read.is, le-leb (length k) 1024 m, t))
 
-pub ruleset pointed-exits = (index_stops, long_key, descending, pointed)
+pub ruleset pointed_exits = (index_stops, long_key, descending, pointed)
 
 -- ---- the lookups of a key
 module _ (l k : List ℕ) (w : Pointed) (h : pointed_of w ≡ and_then (index_and_key l k) point_asked) where
@@ -175,4 +175,4 @@ module _ (l k : List ℕ) (w : Pointed) (h : pointed_of w ≡ and_then (index_an
   unfolding last_partition_including_key_outcome
   last_found q e = e ∙ reckoned _ last_of (λ a. last_is a.partitions a.key) q
 
-pub ruleset key-exits = (point_stops, point_is, first_stops, first_found, or_after_stops, or_after_found, last_stops, last_found)
+pub ruleset key_exits = (point_stops, point_is, first_stops, first_found, or_after_stops, or_after_found, last_stops, last_found)

@@ -36,7 +36,7 @@ module _ (p : KeyPoint) (seen : ℕ) where
   pub one_equal : {o : Order} → o ≡ Equal → record { below = p.below; at_most = seen + 1 } ≡ grown_by p seen o
   one_equal e = rw e
 
-pub ruleset grown-exits = (after_equal, all_below, one_equal)
+pub ruleset grown_exits = (after_equal, all_below, one_equal)
 
 -- ---- led, led_to_end
 module _ (p : KeyPoint) (seen : ℕ) (first x : Key) where
@@ -54,7 +54,7 @@ module _ (p : KeyPoint) (seen : ℕ) (first x : Key) where
   pub known_below : {t : Bool} → KnownBelow t first x → seen ≤ p.at_most → t ≡ true → Less ≡ led_order p seen first x
   known_below f h e = rw (le-ltb p.at_most seen h) (is_less_lem (cmp_key first x) (f.tells e))
 
-pub ruleset led-exits = (one_above, compared, known_below)
+pub ruleset led_exits = (one_above, compared, known_below)
 
 -- ---- the lookups
 module _ (p : KeyPoint) where
@@ -98,9 +98,9 @@ module _ (p : KeyPoint) where
     pub excluded_none : kind ≡ Excluded → p.at_most ≤ 0 → start ≡ end_of kind start partitions p
     excluded_none e h = rw (e, le-ltb 0 p.at_most h)
 
-pub ruleset found-exits = (one_before, first_equal, no_first, last_before_lem, no_last)
+pub ruleset found_exits = (one_before, first_equal, no_first, last_before_lem, no_last)
 
-pub ruleset place-exits = (included_start, excluded_start, last_left_out, last_kept, included_end, included_none, excluded_end, excluded_none)
+pub ruleset place_exits = (included_start, excluded_start, last_left_out, last_kept, included_end, included_none, excluded_end, excluded_none)
 
 -- ---- covering
 module _ (x : IndexPoints) (ks ke : Kind) {t : Bool} where
@@ -115,4 +115,4 @@ module _ (x : IndexPoints) (ks ke : Kind) {t : Bool} where
       → covered_of (CoveredPlaces a b) ≡ answer (covering_of t ks ke x)
   bounds_covered e f g = rw (e, g, f)
 
-pub ruleset covering-exits = (point_covered, bounds_covered)
+pub ruleset covering_exits = (point_covered, bounds_covered)

@@ -108,7 +108,7 @@ module _ (l q : List ℕ) (start end : BoundSpan) (w : Reading) {s u v : Key} {t
       covered_places a d f =
           f ∙ sym (asked hp d ∙ rw a (ap answer (covering_by q start end read.value hs hu ht hb hv read.points (order d))))
 
-pub ruleset covered-exits = (looked_up_in, covered_stops, covered_empty, covered_descending, covered_places)
+pub ruleset covered_exits = (looked_up_in, covered_stops, covered_empty, covered_descending, covered_places)
 
 -- ---- partitions_covering_range
 range_read_lem : (l q : List ℕ) (r : Range) → whole read_range q ≡ answer r → covering_in l r ≡ partitions_covering_range_outcome l q
@@ -153,4 +153,4 @@ module _ (l q : List ℕ) {r : RangeRead} (f : RangeWhole q r) where
     unfolding partitions_covering_range_outcome index_and_range
     range_stops {x} y = rw ((there [] [] (whole index.read l) x (rw y at h)).is, range_stopped e)
 
-pub ruleset range-exits = (start_in, end_in, range_covered, both_stop, range_stops)
+pub ruleset range_exits = (start_in, end_in, range_covered, both_stop, range_stops)

@@ -31,7 +31,7 @@ short_tables m keys h e = record { room = λ n a b. omega arith }
 pub long_tables : (m keys : List ℕ) → length keys ≡ 4096 → RowsEnough m keys
 long_tables m keys e = record { room = λ n a b. omega arith }
 
-pub ruleset table-exits = (short_tables, long_tables)
+pub ruleset table_exits = (short_tables, long_tables)
 
 -- ---- plan_subcompaction_ranges
 module _ (parts : ℕ) (s m d : List ℕ) where
@@ -78,4 +78,4 @@ image_judged {s} {w} {next} {fault} x q =
     let z : given s ≡ i.value = ap values_of r in
     record { given = i.is ∙ ap answer (sym z); there = rw r tt; fault_is = i.fault_is ∙ ap (λ j. fault_of (image_checks j)) (sym z) }
 
-pub ruleset call-exits = (many_parts_told, many_parts_kept, no_image_told, no_image_kept, long_indexes_told, long_indexes_kept, image_judged)
+pub ruleset call_exits = (many_parts_told, many_parts_kept, no_image_told, no_image_kept, long_indexes_told, long_indexes_kept, image_judged)

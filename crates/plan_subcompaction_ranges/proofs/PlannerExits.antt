@@ -105,7 +105,7 @@ module _ (fault : ℕ) (w : SoFar) (len : ℕ) where
     unfolding stop_after
     none_stops l k = let e = first_is in rw (le-ltb w.at len h, le-ltb (first_fault fault w) 8 (omega (arith, e)), le-ltb 4096 w.kept.rows k)
 
-pub ruleset stop-exits = (left_over, first_fails, too_many_rows, none_stops)
+pub ruleset stop_exits = (left_over, first_fails, too_many_rows, none_stops)
 
 -- ---- the outcome, after the settings and the image
 abbrev pub given : List ℕ → Image
@@ -298,6 +298,6 @@ module _ (parts : ℕ) {fault : ℕ} (s m d : List ℕ) (hp : parts ≤ 64) (hi 
 pub image_there : {s : List ℕ} {fault : ℕ} → ImageJudged s fault → T (is_got (image.read s))
 image_there h = h.there
 
-pub ruleset plan-exits = (image_there, not_read_told, not_read_kept, stopped_told, stopped_kept)
+pub ruleset plan_exits = (image_there, not_read_told, not_read_kept, stopped_told, stopped_kept)
 
-pub ruleset planned-exits = (planned_told, planned_written)
+pub ruleset planned_exits = (planned_told, planned_written)

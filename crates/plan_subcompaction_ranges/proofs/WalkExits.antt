@@ -142,7 +142,7 @@ stop_past s r = record { is = tt }
 pub index_next : {m : List ℕ} {at next fault : ℕ} {j : Judged} → JudgedFound m (faults index_checks (index.read (drop at m))) j → j ≡ JudgedAt next fault → IndexNext m at next fault
 index_next x q = record { found = record { meaning = rw q at x.meaning; inside = rw q at x.inside } }
 
-pub ruleset views-exits = (views_begin, keys_kept, bytes_kept, sampled_now, index_place, views_ended, views_past, view_here, seen_fits, view_inside, views_stop, views_onward, stop_past, index_next)
+pub ruleset views_exits = (views_begin, keys_kept, bytes_kept, sampled_now, index_place, views_ended, views_past, view_here, seen_fits, view_inside, views_stop, views_onward, stop_past, index_next)
 
 -- ---- runs_sampled
 views_of_more : (rs : List Run) (r : Run) (qs : List Run) → views (rs ++ (r ∷ qs)) ≡ (views rs ++ r.views) ++ views qs
@@ -257,4 +257,4 @@ module _ {s : List ℕ} {n : ℕ} {m keys₀ bytes₀ keys bytes : List ℕ} {se
               bytes_long = b ∙ p.bytes_long;
             }
 
-pub ruleset runs-exits = (runs_begin, run_keys_kept, run_bytes_kept, runs_now, runs_ended, run_here, runs_fit, run_views_lem, runs_stop, runs_onward)
+pub ruleset runs_exits = (runs_begin, run_keys_kept, run_bytes_kept, runs_now, runs_ended, run_here, runs_fit, run_views_lem, runs_stop, runs_onward)

@@ -49,7 +49,7 @@ module _ (offset len : ℕ) {t : Bool} (e : t ≡ size_fits offset len) where
   pub raw_refused : t ≡ false → 0 ≡ passing_size offset len
   raw_refused h = rw (← e, h)
 
-pub ruleset raw-exits = (raw_fits, raw_passes, raw_refused)
+pub ruleset raw_exits = (raw_fits, raw_passes, raw_refused)
 
 -- ---- total_fault
 pub total_below : (n : ℕ) → n < 9223372036854775808 → 8 ≡ fault_of (total_fits n)
@@ -60,7 +60,7 @@ pub total_reached : (n : ℕ) → 9223372036854775808 ≤ n → 7 ≡ fault_of (
 unfolding fault_of total_fits
 total_reached n h = rw (le-ltb n (2 ^ 63) (omega arith))
 
-pub ruleset total-exits = (total_below, total_reached)
+pub ruleset total_exits = (total_below, total_reached)
 
 -- ---- with_view
 module _ {m keys bytes : List ℕ} {w : SoFar} (p : SampledSome m keys bytes w) where
@@ -168,4 +168,4 @@ module _ {s m keys bytes : List ℕ} {w : SoFar} {v : ViewSpan} {r : RangeSpan} 
             (t ∙ ap (λ a. least (w.kept.total + total a) (2 ^ 63)) (same_anchors j e)) f (l ∙ ap (max w.largest) q);
       }
 
-pub ruleset view-exits = (tables_wide, rows_few, total_most, range_start, range_end, index_there_lem, view_added)
+pub ruleset view_exits = (tables_wide, rows_few, total_most, range_start, range_end, index_there_lem, view_added)

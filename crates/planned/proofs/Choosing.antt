@@ -70,7 +70,7 @@ module _ (parts least bytes : ℕ) where
 pub some_part : {parts : ℕ} → 1 < parts → 0 < parts
 some_part h = omega arith
 
-pub ruleset goal-exits = (one_part, wide_target, narrow_target, some_part)
+pub ruleset goal_exits = (one_part, wide_target, narrow_target, some_part)
 
 -- ---- choose_few and choose_many
 -- there is a goal where more than one range may be chosen
@@ -135,7 +135,7 @@ module _ (s marks : List ℕ) (parts least : ℕ) (as' : Anchors) {goal bytes : 
 pub total_below : {bytes m : ℕ} → bytes ≡ m → bytes < 2 ^ 63 → m < 2 ^ 63
 total_below e l = omega arith
 
-pub ruleset choose-exits = (none_chosen, part_wanted, goal_below, some_chosen, total_below, sorted_rows, sorted_room)
+pub ruleset choose_exits = (none_chosen, part_wanted, goal_below, some_chosen, total_below, sorted_rows, sorted_room)
 
 -- ---- planned_few and planned_many
 pub marks_few : {s marks : List ℕ} {count : ℕ} {ks : List Key} → Marked s marks count ks → count ≤ 63
@@ -155,4 +155,4 @@ module _ {s marks : List ℕ} {count : ℕ} (parts least : ℕ) (as' : Anchors) 
   pub plan_lent : (d : List ℕ) {f : List ℕ} → f ≡ lent d (written_to (length d) (plan_bytes (marked_keys s marks count))) → f ≡ lent d (written_to (length d) (plan.write (select_boundaries parts least as')))
   plan_lent d e = e ∙ ap (λ l. lent d (written_to (length d) l)) plan_is
 
-pub ruleset planned-exits = (marks_few, marks_there, plan_reported, plan_lent)
+pub ruleset planned_exits = (marks_few, marks_there, plan_reported, plan_lent)

@@ -99,7 +99,7 @@ module _ {s marks : List ℕ} {n size i : ℕ} (p : Sizing s marks n size i) whe
             bound = omega (arith, p.bound, most);
           }
 
-pub ruleset size-exits = (size_begin, size_end, size_in, size_key, size_double, size_one, size_fits, size_more)
+pub ruleset size_exits = (size_begin, size_end, size_in, size_key, size_double, size_one, size_fits, size_more)
 
 -- ---- put_joint
 module _ (d : List ℕ) (to : ℕ) (k : Key) (left : ℕ) (room : to + length (joint k left) ≤ length d) where
@@ -136,7 +136,7 @@ module _ (d : List ℕ) (to : ℕ) (k : Key) (left : ℕ) (room : to + length (j
           let z : h ≡ head_byte Included (end_kind left) = b ∙ ap (head_byte Included) a in
           e₃ ∙ y ∙ ap (splice d to) (append_assoc (write_key k) (h ∷ []) (write_key k) ∙ rw z)
 
-pub ruleset joint-exits = (joint_first, joint_head, joint_fits, joint_past, joint_second, joint_put, spliced_length)
+pub ruleset joint_exits = (joint_first, joint_head, joint_fits, joint_past, joint_second, joint_put, spliced_length)
 
 -- ---- put_joints
 pub record Putting (s marks : List ℕ) (n : ℕ) (d out : List ℕ) (to i : ℕ) : Type 0 where
@@ -201,7 +201,7 @@ module _ {s marks : List ℕ} {n : ℕ} {d out : List ℕ} {to i : ℕ} (p : Put
           long = rw length-append (omega (arith, f, p.long));
         }
 
-pub ruleset put-exits = (put_begin, put_length, put_end, put_in, put_key, put_room, put_more)
+pub ruleset put_exits = (put_begin, put_length, put_end, put_in, put_key, put_room, put_more)
 
 -- ---- put_plan
 module _ (s marks : List ℕ) (n : ℕ) (r : Rows s marks n) (few : n ≤ 63) (d : List ℕ) (room : length (plan_bytes (marked_keys s marks n)) ≤ length d) where
@@ -238,7 +238,7 @@ module _ (s marks : List ℕ) (n : ℕ) (r : Rows s marks n) (few : n ≤ 63) (d
           let z : v ∷ h ∷ joints keys ≡ plan_bytes keys = rw (c, b, a) (rw count at (sym (plan_bytes_lem keys (omega (arith, count, few))))) in
           e₃ ∙ y ∙ ap (splice d 0) z
 
-pub ruleset plan-exits = (count_room, head_room, joints_room, plan_put, spliced_length)
+pub ruleset plan_exits = (count_room, head_room, joints_room, plan_put, spliced_length)
 
 -- ---- write_plan: what stands at the front of a buffer is put at its start
 pub at_front : (d b : List ℕ) {f : List ℕ} → f ≡ splice d 0 b → f ≡ over b d

@@ -20,7 +20,7 @@ pub most_share : (parts least bytes : ℕ) → least ≤ bytes / parts → bytes
 unfolding target
 most_share parts least bytes h = sym (max-eq_left h)
 
-pub ruleset target-exits = (most_least, most_share)
+pub ruleset target_exits = (most_least, most_share)
 
 -- ---- begins
 and_false : (a : Bool) → false ≡ (a && false)
@@ -37,7 +37,7 @@ module _ (left threshold before : ℕ) (b : Bool) where
   pub by_key : {r : Bool} → threshold ≤ before → (left ≡ 0 → ⊥) → r ≡ b → r ≡ (ltb 0 left && leb threshold before && b)
   by_key h z e = rw (le-leb threshold before h, lt-ltb 0 left (omega arith)) e
 
-pub ruleset begins-exits = (not_reached, none_wanted, by_key)
+pub ruleset begins_exits = (not_reached, none_wanted, by_key)
 
 -- ---- end_kind
 pub some_left : (left : ℕ) → 0 < left → Excluded ≡ end_kind left
@@ -46,4 +46,4 @@ some_left left h = rw (lt-ltb 0 left h)
 pub none_left : (left : ℕ) → left ≤ 0 → Unbounded ≡ end_kind left
 none_left left h = rw (le-ltb 0 left h)
 
-pub ruleset end-kind-exits = (some_left, none_left)
+pub ruleset end_kind_exits = (some_left, none_left)

@@ -269,4 +269,4 @@ module _ {s keys bytes order : List ℕ} {n parts goal : ℕ} {marks₀ marks : 
           rest = rw (sym e ∙ y) at next_rest;
         }
 
-pub ruleset walk-exits = (no_rows, first_row, last_row, first_there, last_there, one_key_marked, walk_begin, walk_left, walk_left_2, walk_last, walk_same, walk_end, walk_row, walk_keys, walk_bytes, walk_there, walk_sum)
+pub ruleset walk_exits = (no_rows, first_row, last_row, first_there, last_there, one_key_marked, walk_begin, walk_left, walk_left_2, walk_last, walk_same, walk_end, walk_row, walk_keys, walk_bytes, walk_there, walk_sum)

@@ -50,7 +50,7 @@ module _ (d : List ℕ) (to : ℕ) (k : Key) (room : to + length (write_key k) �
       pub key_same : length f ≡ length d
       key_same = ap length q ∙ length_splice e (to + 2) k bytes_room ∙ number_same
 
-pub ruleset key-exits = (count_room, key_fits, bytes_room, key_put, key_same)
+pub ruleset key_exits = (count_room, key_fits, bytes_room, key_put, key_same)
 
 -- ---- put_bound
 module _ (k : Kind) (key : Key) where
@@ -69,7 +69,7 @@ module _ (k : Kind) (key : Key) where
 pub unbounded_put : (d : List ℕ) (to : ℕ) (k : Kind) (key : Key) → k ≡ Unbounded → Put d to (write_bound (bound_of k key)) d to
 unbounded_put d to k key e = put_same (put_none d to) (bound_none k key e)
 
-pub ruleset bound-exits = (unbounded_put, bound_included, bound_excluded, put_same, same_room, same_length)
+pub ruleset bound_exits = (unbounded_put, bound_included, bound_excluded, put_same, same_room, same_length)
 
 -- ---- put_range: the head, and the bounds
 kind_back : (k : Kind) (key : Key) → kind_of_bound (bound_of k key) ≡ k
@@ -112,7 +112,7 @@ module _ (d : List ℕ) (to : ℕ) (ks : Kind) (s : Key) (ke : Kind) (e : Key) (
         pub range_same : length o' ≡ length d
         range_same = all_length d to (h ∷ []) start end range_roomy headed u v
 
-pub ruleset range-exits = (head_room, start_room, end_room, range_put, range_same)
+pub ruleset range_exits = (head_room, start_room, end_room, range_put, range_same)
 
 -- ---- bound_size and range_size
 module _ (k : Kind) (key : Key) where
@@ -130,4 +130,4 @@ both_sizes ks s ke e p q =
     let l = length-append (write_bound (bound_of ks s)) (write_bound (bound_of ke e)) in
     omega (arith, p, q, l, ap length (range_is ks s ke e))
 
-pub ruleset size-exits = (unbounded_size, included_size, excluded_size, both_sizes)
+pub ruleset size_exits = (unbounded_size, included_size, excluded_size, both_sizes)

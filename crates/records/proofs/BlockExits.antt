@@ -53,7 +53,7 @@ module _ (s : List ℕ) (at : ℕ) where
         let v = rw q at x.inside in
         record { meaning = rw (e, ← x.meaning, q); inside = (rw v.0 v.1, v.1) }
 
-pub ruleset block-exits = (eight_there, past_fits, no_offset, bad_first, block_read)
+pub ruleset block_exits = (eight_there, past_fits, no_offset, bad_first, block_read)
 
 -- ---- anchor_at
 module _ (s : List ℕ) (at : ℕ) {r : KeyRead} (x : KeyFound s (read_key (drop at s)) r) where
@@ -80,4 +80,4 @@ module _ (s : List ℕ) (at : ℕ) {r : KeyRead} (x : KeyFound s (read_key (drop
         let v = rw q at x.inside in
         record { meaning = rw (← x.meaning, q, e); inside = (rw v.0 v.1, omega arith) }
 
-pub ruleset anchor-exits = (eight_there, past_fits, bad_key, key_end, no_bytes, anchor_read_lem)
+pub ruleset anchor_exits = (eight_there, past_fits, bad_key, key_end, no_bytes, anchor_read_lem)

@@ -106,4 +106,4 @@ unfolding flag_of
 flag_bad b h p q =
     stopped_is (flag_of b) (ruled (λ b. stopped (flag_of b)) (128 ∷ 0 ∷ []) 256 tt b h ((tt, p), q))
 
-pub ruleset flag-exits = (flag_clear, flag_set, flag_bad)
+pub ruleset flag_exits = (flag_clear, flag_set, flag_bad)

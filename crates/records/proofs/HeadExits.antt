@@ -94,7 +94,7 @@ module _ (s : List ℕ) (at : ℕ) where
         let z : at + 6 ≡ at + 4 + 2 = omega arith in
         record { meaning = rw (e, f, le-leb (w / 16) 1024 l, eq-eqb (w % 16) 0 n, z); inside = omega arith }
 
-pub ruleset run-exits = (no_head, id_there, count_there, count_fits, views_fit, many_views_lem, padded, head_read)
+pub ruleset run_exits = (no_head, id_there, count_there, count_fits, views_fit, many_views_lem, padded, head_read)
 
 -- ---- count_at
 module _ (s : List ℕ) (at n most : ℕ) where
@@ -116,4 +116,4 @@ module _ (s : List ℕ) (at n most : ℕ) where
     unfolding count_of
     count_read_lem h k l = record { meaning = rw (e, le-leb v most l); inside = omega arith }
 
-pub ruleset count-exits = (no_count, count_in, count_end, over_most, count_read_lem)
+pub ruleset count_exits = (no_count, count_in, count_end, over_most, count_read_lem)

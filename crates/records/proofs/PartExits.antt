@@ -70,7 +70,7 @@ module _ (s : List ℕ) (at : ℕ) {r : RangeRead} (f : RangeFound s (read_range
           let i = rw q at f.inside in
           record { meaning = rw (← f.meaning, q, e, le-leb (w % 32768) 1024 l); inside = (i.0, (i.1.0, omega arith)) }
 
-pub ruleset part-exits = (no_planned, word_place, no_word, many_outputs, part_read_lem)
+pub ruleset part_exits = (no_planned, word_place, no_word, many_outputs, part_read_lem)
 
 -- ---- a job's sources
 cut_ids :
@@ -121,7 +121,7 @@ module _ (s : List ℕ) (at : ℕ) {r : CountRead} (f : CountFound s ((up_to 1 6
         let h : from + 4 * n ≤ length s = omega (arith, ids_place) in
         record { meaning = rw (opened, ← f.meaning, q, ids_at s from n h); inside = (refl, h) }
 
-pub ruleset sources-exits = (no_sources, ids_place, sources_short, sources_read_lem)
+pub ruleset sources_exits = (no_sources, ids_place, sources_short, sources_read_lem)
 
 -- ---- job_head
 pub no_destination : (s : List ℕ) → length s < 4 → JobFound s (job_head.read s) (Stop 1)
@@ -143,4 +143,4 @@ module _ (s : List ℕ) {d : ℕ} (e : read_number 4 (drop 0 s) ≡ got d (drop 
 pub parts_place : (s : List ℕ) {g : Got (List ℕ)} {r : SourcesRead} {n from past : ℕ} → SourcesFound s g r → r ≡ SourcesAt n from past → past ≤ length s
 parts_place s f q = (rw q at f.inside).1
 
-pub ruleset job-exits = (no_destination, bad_sources, no_parts, job_read, parts_place)
+pub ruleset job_exits = (no_destination, bad_sources, no_parts, job_read, parts_place)

@@ -43,7 +43,7 @@ module _ {s : List ℕ} {from n k at : ℕ} (p : Walked view.read s from n k at)
   pub views_onward : {v : ViewSpan} → k < n → ViewThere s (view.read (drop at s)) v → Walked view.read s from n (k + 1) v.past
   views_onward {v} h f = record { seen = p.seen ++ (view_in s v ∷ []); walk = walk_onward p.walk h f.meaning f.inside.past }
 
-pub ruleset view-walk = (views_begin, views_past, view_here, views_onward)
+pub ruleset view_walk = (views_begin, views_past, view_here, views_onward)
 
 -- ---- blocks_past
 pub blocks_begin : (s : List ℕ) (from n : ℕ) → from ≤ length s → T (is_got (read_many block.read n (drop from s))) → Walked block.read s from n 0 from
@@ -68,4 +68,4 @@ module _ {s : List ℕ} {from n k at : ℕ} (p : Walked block.read s from n k at
         let o : OneBlock s at m = block_opened s at here f in
         record { seen = p.seen ++ (o.value ∷ []); walk = walk_onward p.walk h o.is f.inside }
 
-pub ruleset block-walk = (blocks_begin, blocks_end, offset_fits, first_here, blocks_onward)
+pub ruleset block_walk = (blocks_begin, blocks_end, offset_fits, first_here, blocks_onward)

@@ -41,7 +41,7 @@ module _ (s : List ℕ) (at : ℕ) {f : Bool} where
   unfolding last_if read_if
   last_absent e h = record { meaning = rw e; inside = (add-zero at, h) }
 
-pub ruleset last-exits = (last_there, last_absent)
+pub ruleset last_exits = (last_there, last_absent)
 
 -- ---- table_at
 -- the fields after the numbers, and the table of all
@@ -177,4 +177,4 @@ module _ (s : List ℕ) (at : ℕ) where
   pub first_fits : 41 ≤ length s - at → length s < 2 ^ 64 → Fits w64 (at + 41)
   first_fits h k = omega arith
 
-pub ruleset table-exits = (no_numbers, flag_fits, flag_in, first_fits, bad_flag, bad_first, last_place, bad_last, table_read_lem)
+pub ruleset table_exits = (no_numbers, flag_fits, flag_in, first_fits, bad_flag, bad_first, last_place, bad_last, table_read_lem)

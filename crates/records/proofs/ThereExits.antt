@@ -23,7 +23,7 @@ use Rattle.format.specs.Range.{kind_of, read_bound, read_range}
 use Rattle.format.specs.There.{KeyThere, BoundThere}
 use Rattle.format.specs.declared.range.BoundSpan.{BoundSpan}
 use Rattle.format.specs.declared.there.KeySpan.{KeySpan}
-use Rattle.format.proofs.ThereExits.{first_got, number_got, range_is, range-there-exits}
+use Rattle.format.proofs.ThereExits.{first_got, number_got, range_is, range_there_exits}
 use Rattle.records.specs.Form.{Form, number, taken, key, range, seq, optional, read_if, read_many}
 use Rattle.records.specs.Layouts.{flag, flag_of, up_to, count_of, view_count, view_count_of, table, view, view_of, run, image, block}
 use Rattle.records.specs.Values.{Table, Image, Block}
@@ -75,7 +75,7 @@ module _ (s : List ℕ) (at : ℕ) (t : T (is_got (image.read (drop at s)))) whe
         most = counted_most (leb n 64) n (drop 1 (drop at s)) (read_many run.read) refl (rw f at runs_got);
       }
 
-pub ruleset known-count-exits = (image_room, runs_are)
+pub ruleset known_count_exits = (image_room, runs_are)
 
 -- ---- known_run
 counts : (a b : Bool) (n : ℕ) (l : List ℕ) → T (is_got (taken (check 3 a (check 2 b (answer n))) l)) → taken (check 3 a (check 2 b (answer n))) l ≡ got n l
@@ -110,7 +110,7 @@ module _ (s : List ℕ) (at : ℕ) (t : T (is_got (run_head.read (drop at s)))) 
       let z : at + 4 + 2 ≡ at + 6 = omega arith in
       record { meaning = o ∙ rw (f, c, z); inside = head_room }
 
-pub ruleset known-run-exits = (id_room, count_room, count_fits, views_fit, run_is)
+pub ruleset known_run_exits = (id_room, count_room, count_fits, views_fit, run_is)
 
 -- ---- last_there
 module _ (s : List ℕ) (at : ℕ) {f : Bool} where
@@ -126,7 +126,7 @@ module _ (s : List ℕ) (at : ℕ) {f : Bool} where
   unfolding last_if read_if
   last_none e h = record { meaning = rw (e, add-zero); inside = rw add-zero h }
 
-pub ruleset last-there-exits = (last_got, last_keyed, last_none)
+pub ruleset last_there_exits = (last_got, last_keyed, last_none)
 
 -- ---- table_there
 flags : (b f : Bool) (l : List ℕ) → T (is_got (taken (check 2 b (answer f)) l)) → check 2 b (answer f) ≡ answer f
@@ -208,7 +208,7 @@ module _ (s : List ℕ) (at : ℕ) (t : T (is_got (table.read (drop at s)))) whe
   pub first_there : T (is_got (read_key (drop (at + 41) s)))
   first_there = first_got (read_key (drop (at + 41) s)) _ (keys_got refl)
 
-pub ruleset table-there-exits = (offset_room, len_room, filter_room, flag_room, field_fits, first_there, last_there, table_is)
+pub ruleset table_there_exits = (offset_room, len_room, filter_room, flag_room, field_fits, first_there, last_there, table_is)
 
 -- ---- known_view
 id_short : (l : List ℕ) → length l < 16 → view.read l ≡ stop 1
@@ -292,7 +292,7 @@ module _ (s : List ℕ) (at : ℕ) (t : T (is_got (view.read (drop at s)))) wher
             inside = record { id = view_room; table = x.inside; start = rw add-zero after_flag; end = rw add-zero after_flag; past = after_flag };
           }
 
-pub ruleset known-view-exits = (table_fits, table_got, flag_there, after_flag_fits, after_flag, range_got, view_shown, view_hidden, range-there-exits)
+pub ruleset known_view_exits = (table_fits, table_got, flag_there, after_flag_fits, after_flag, range_got, view_shown, view_hidden, range_there_exits)
 
 -- ---- block_there
 module _ (s : List ℕ) (at : ℕ) (t : T (is_got (block.read (drop at s)))) where
@@ -323,4 +323,4 @@ pub record OneBlock (s : List ℕ) (at : ℕ) (k : KeySpan) : Type 0 where
 pub block_opened : (s : List ℕ) (at : ℕ) → T (is_got (block.read (drop at s))) → {k : KeySpan} → KeyThere s (read_key (drop (at + 8) s)) k → OneBlock s at k
 block_opened s at t x = record { value = _; is = (block_is s at t x (number_is s at 8 (block_room s at t))).meaning }
 
-pub ruleset block-there-exits = (block_room, key_field_fits, block_key, block_is)
+pub ruleset block_there_exits = (block_room, key_field_fits, block_key, block_is)

@@ -45,7 +45,7 @@ module _ (s : List ℕ) (at : ℕ) {f : Bool} where
   unfolding range_if read_if
   range_absent e h = record { meaning = rw e; inside = (rw add-zero h, (rw add-zero h, h)) }
 
-pub ruleset visible-exits = (range_there, range_absent)
+pub ruleset visible_exits = (range_there, range_absent)
 
 -- ---- view_of
 module _ (s : List ℕ) (at : ℕ) {t : TableSpan} (h : at + 16 ≤ length s) (x : TableThere s (table.read (drop (at + 16) s)) t) where
@@ -96,7 +96,7 @@ module _ (s : List ℕ) (p : ℕ) (l : p < length s) where
   pub range_place : p + 1 ≤ length s
   range_place = omega arith
 
-pub ruleset view-of-exits = (no_flag, bad_visible, bad_range, view_read_lem, range_fits, range_place)
+pub ruleset view_of_exits = (no_flag, bad_visible, bad_range, view_read_lem, range_fits, range_place)
 
 -- ---- view_span
 module _ (s : List ℕ) (at : ℕ) where
@@ -119,4 +119,4 @@ module _ (s : List ℕ) (at : ℕ) where
     pub table_found : {t : TableSpan} → w ≡ TableAt t → TableThere s (table.read (drop (at + 16) s)) t
     table_found q = record { meaning = sym (rw q at x.meaning); inside = rw q at x.inside }
 
-pub ruleset view-exits = (no_id, table_fits, table_place, bad_table, table_found)
+pub ruleset view_exits = (no_id, table_fits, table_place, bad_table, table_found)

@@ -42,4 +42,4 @@ module _ (answer out : List ℕ) (n : ℕ) where
     pub stop_is : w ≡ Stop n → (r ≡ true → Stopped answer out n) → r ≡ true → Recorded answer out w
     stop_is e h q = subst (Recorded answer out) (sym e) (h q)
 
-pub ruleset agreed-exits = (not_held, not_stopped, held, stopped, wrote_is, stop_is)
+pub ruleset agreed_exits = (not_held, not_stopped, held, stopped, wrote_is, stop_is)

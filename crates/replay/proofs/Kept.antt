@@ -26,7 +26,7 @@ module _ {out : List ℕ} {from i : ℕ} (p : Before out from i) where
 pub not_kept : (out : List ℕ) (from : ℕ) → false ≡ true → Unwritten out from
 not_kept out from e = absurd (true≢false (sym e))
 
-pub ruleset unwritten-exits = (before_none, before_more, before_all, not_kept)
+pub ruleset unwritten_exits = (before_none, before_more, before_all, not_kept)
 
 -- ---- is_stop
 pub not_so : (l m : List ℕ) → false ≡ true → l ≡ m

@@ -27,4 +27,4 @@ front_fits s d n e h = rw (ap length e, length-take) (omega arith)
 pub front_is_short : (s : List ℕ) (n m : ℕ) → n ≤ m → length (take n s) ≤ m
 front_is_short s n m h = simp length-take (omega arith)
 
-pub ruleset handed-exits = (front_stands, kept, front_goes_on, front_fits, front_is_short)
+pub ruleset handed_exits = (front_stands, kept, front_goes_on, front_fits, front_is_short)

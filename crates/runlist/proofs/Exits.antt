@@ -61,7 +61,7 @@ module _ (d : List ℕ) (n : ℕ) (h : n < 256) (room : 9 ≤ length d) {e : Lis
         ∙ splice_splice d 0 word (decimal n ++ (10 ∷ [])) 5 refl (omega arith)
         ∙ rw zero-add
 
-pub ruleset stop-exits = (digits_room, newline_room, past_fits, stop_past, stop_put)
+pub ruleset stop_exits = (digits_room, newline_room, past_fits, stop_past, stop_put)
 
 -- ---- answer: every listing has room, so `list` stops only where the image is refused
 abbrev texts : Outcome Image → Outcome (List ℕ)

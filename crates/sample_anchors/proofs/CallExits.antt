@@ -83,7 +83,7 @@ module _ {s keys₀ bytes₀ keys bytes : List ℕ} {n : ℕ} {as' : Anchors} (f
     pub rows_lent : {g : List ℕ} (d : List ℕ) → g ≡ lent d (written_to (length d) (anchors.write (anchors_in s keys bytes n))) → g ≡ lent d (written_to (length d) (anchors.write as'))
     rows_lent d e = e ∙ ap (λ l. lent d (written_to (length d) (anchors.write l))) rows_are
 
-pub ruleset answered-exits = (rows_there, rows_most, rows_sized, rows_reported, rows_lent, most_anchors)
+pub ruleset answered_exits = (rows_there, rows_most, rows_sized, rows_reported, rows_lent, most_anchors)
 
 -- ---- sampled
 pub few_anchors : (s : List ℕ) (at : ℕ) → T (is_got (index.read (drop at s))) → (most dataEnd : ℕ) (q : Range) {n : ℕ} → read_number 2 (drop at s) ≡ got n (drop (at + 2) s) → n ≤ 64 → length (sample_anchors most dataEnd (index_there s at) q) ≤ 64
@@ -212,4 +212,4 @@ module _ (most dataEnd : ℕ) (l q : List ℕ) (room : ℕ) where
           pub answer_lent : (d : List ℕ) {g : List ℕ} → t ≡ true → 8 ≤ fault → g ≡ lent d (written_to room (anchors.write (sample_anchors most dataEnd (index_there l 0) (range_in q start end)))) → g ≡ lent d (sample_anchors_outcome most dataEnd l q room)
           answer_lent d v h z = z ∙ sym (ap (lent d) (all_pass v h))
 
-pub ruleset call-exits = (asked_too_many_reported, asked_too_many_lent, index_stops_reported, index_stops_lent, range_stops_reported, range_stops_lent, start_inside, end_inside, index_got, range_fails_reported, range_fails_lent, order_fails_reported, order_fails_lent, answer_reported, answer_lent)
+pub ruleset call_exits = (asked_too_many_reported, asked_too_many_lent, index_stops_reported, index_stops_lent, range_stops_reported, range_stops_lent, start_inside, end_inside, index_got, range_fails_reported, range_fails_lent, order_fails_reported, order_fails_lent, answer_reported, answer_lent)

@@ -87,7 +87,7 @@ module _ {s keys : List ℕ} {n len row : ℕ} (p : Measured s keys n len row) w
             bound = omega (arith, p.bound, short);
           }
 
-pub ruleset len-exits = (measured_begin, measured_all, measured_row, measured_key, row_fits, field_fits, length_fits, measured_onward)
+pub ruleset len_exits = (measured_begin, measured_all, measured_row, measured_key, row_fits, field_fits, length_fits, measured_onward)
 
 -- ---- put_anchor
 abbrev anchor_of : List ℕ → ℕ → ℕ → Anchor
@@ -124,7 +124,7 @@ module _ (s : List ℕ) (at size : ℕ) (d : List ℕ) (to : ℕ) (room : to + l
         ∙ splice_splice d to (write_key (key_there s at)) (write_number 8 size) next e key_room
         ∙ ap (splice d to) (sym (anchor_is (anchor_of s at size)))
 
-pub ruleset put-anchor-exits = (key_room, size_room, past_fits, past_is, anchor_put)
+pub ruleset put_anchor_exits = (key_room, size_room, past_fits, past_is, anchor_put)
 
 -- ---- put_rows
 written_append : (as' bs : Anchors) → write_many anchor.write (as' ++ bs) ≡ write_many anchor.write as' ++ write_many anchor.write bs
@@ -222,7 +222,7 @@ module _ {s keys bytes d : List ℕ} {n first : ℕ} {out : List ℕ} {to row : 
               ∙ ap (splice d first) (sym (text_more s keys bytes row));
         }
 
-pub ruleset put-rows-exits = (put_rows_begin, put_length, put_all, put_row, put_size, put_key_there, put_room, put_onward)
+pub ruleset put_rows_exits = (put_rows_begin, put_length, put_all, put_row, put_size, put_key_there, put_room, put_onward)
 
 -- ---- put_anchors
 over_splice : (d b : List ℕ) → splice d 0 b ≡ over b d
@@ -271,7 +271,7 @@ module _ (s keys bytes : List ℕ) (n : ℕ) where
           ∙ ap (splice d 0) (sym whole_is)
           ∙ over_splice d (anchors.write (anchors_in s keys bytes n))
 
-pub ruleset put-anchors-exits = (count_room, rows_room, anchors_put)
+pub ruleset put_anchors_exits = (count_room, rows_room, anchors_put)
 
 -- ---- what is measured is what is written
 fields_are : (s keys bytes rs : List ℕ) → length (write_many anchor.write (map (anchor_at s keys bytes) rs)) ≡ fields_of (map (key_at s keys) rs)
@@ -314,4 +314,4 @@ module _ (s keys bytes : List ℕ) (n : ℕ) (d : List ℕ) {len : ℕ} (e : len
   pub all_stands : {g : List ℕ} → len ≤ length d → g ≡ over (anchors.write (anchors_in s keys bytes n)) d → g ≡ lent d (written_to (length d) (anchors.write (anchors_in s keys bytes n)))
   all_stands h q = stands d answer long h q
 
-pub ruleset written-rows-exits = (all_room, no_room, as_it_was, all_written, all_stands)
+pub ruleset written_rows_exits = (all_room, no_room, as_it_was, all_written, all_stands)

@@ -42,7 +42,7 @@ stride_up (suc m) blocks h =
     let z : max 1 (suc m) ≡ suc m = max-eq_right (omega arith) in
     rw z
 
-pub ruleset stride-exits = (stride_all, stride_up)
+pub ruleset stride_exits = (stride_all, stride_up)
 
 -- ---- lesser
 pub first_lesser : (a b : ℕ) → a < b → a ≡ least a b
@@ -53,7 +53,7 @@ pub second_lesser : (a b : ℕ) → b ≤ a → b ≡ least a b
 unfolding least
 second_lesser a b h = rw (le-ltb a b h)
 
-pub ruleset lesser-exits = (first_lesser, second_lesser)
+pub ruleset lesser_exits = (first_lesser, second_lesser)
 
 least_by : (P : ℕ → Type 0) (a b : ℕ) → (a < b → P a) → (b ≤ a → P b) → P (least a b)
 unfolding least
@@ -122,7 +122,7 @@ module _ (s : List ℕ) (at left : ℕ) (h : left ≡ 0 → ⊥) (t : T (is_got 
   next_offset dataEnd {o} e =
       rw here.all (sym (offset_of (drop at s) here.value here.next (drop (at + 8) s) o here.one e))
 
-pub ruleset beginning-exits = (data_end, offset_there, next_offset)
+pub ruleset beginning_exits = (data_end, offset_there, next_offset)
 
 -- ---- group_there
 -- the n values at the front of some that are there, and the others
@@ -239,4 +239,4 @@ module _ (s : List ℕ) (at left step : ℕ) {n : ℕ} (t : T (is_got (read_many
             inside = y.inside;
           }
 
-pub ruleset group-exits = (group_within, group_some, first_there, past_first, others_there, past_group, after_there, group_is)
+pub ruleset group_exits = (group_within, group_some, first_there, past_first, others_there, past_group, after_there, group_is)

@@ -52,7 +52,7 @@ row_not_stored k keys v h = sym (set_out keys k.rows v h)
 pub size_not_stored : (k : Kept) (keys bytes : List ℕ) (v : ℕ) → length bytes ≡ length keys → length keys ≤ k.rows → bytes ≡ set bytes k.rows v
 size_not_stored k keys bytes v e h = sym (set_out bytes k.rows v (rw e h))
 
-pub ruleset row-exits = (row_added_lem, row_not_stored, size_not_stored)
+pub ruleset row_exits = (row_added_lem, row_not_stored, size_not_stored)
 
 -- ---- with_group
 module _ {t w : Bool} (e : w ≡ t) (g : GroupSpan) (k : Kept) (keys bytes : List ℕ) where
@@ -294,4 +294,4 @@ module _ {s keys₀ bytes₀ : List ℕ} {q : Range} {most dataEnd step : ℕ} {
   pub sampled_bytes : length bytes ≡ length bytes₀
   sampled_bytes = p.bytes_long
 
-pub ruleset sample-exits = (index_room, blocks_fit, stride_fits, sampled_begin, sampled_place, sampled_there_lem, sampled_some, sampled_wide, sampled_most, row_fits, group_key, groups_fewer, sampled_onward, sampled_held, sampled_total, sampled_keys, sampled_bytes)
+pub ruleset sample_exits = (index_room, blocks_fit, stride_fits, sampled_begin, sampled_place, sampled_there_lem, sampled_some, sampled_wide, sampled_most, row_fits, group_key, groups_fewer, sampled_onward, sampled_held, sampled_total, sampled_keys, sampled_bytes)

@@ -159,4 +159,4 @@ module _ {s : List ℕ} {from n tall wide : ℕ} {keys bytes : List ℕ} {seen a
                   ∙ ap (λ t. least t (2 ^ 63)) (sym (ap total more ∙ one_more (anchors_in s keys bytes seen) found))));
             }
 
-pub ruleset tabling-exits = (tabling_begin, tabling_at, sum_most, keys_same, bytes_same, all_tabled, keys_place, bytes_place, anchor_stop, tabling_onward)
+pub ruleset tabling_exits = (tabling_begin, tabling_at, sum_most, keys_same, bytes_same, all_tabled, keys_place, bytes_place, anchor_stop, tabling_onward)

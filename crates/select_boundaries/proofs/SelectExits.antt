@@ -130,7 +130,7 @@ module _ (parts low : ℕ) (d : List ℕ) {s keys bytes : List ℕ} {n : ℕ} {g
         pub plan_lends : {x : List ℕ} → x ≡ lent d (written_to (length d) (plan.write (select_boundaries parts low (anchors_in s keys bytes n)))) → x ≡ lent d (selected_from parts low (ended g) (length d))
         plan_lends e = e ∙ sym (ap (lent d) plan_is)
 
-pub ruleset selected-exits = (rows_there, bytes_wide, sum_total, sum_below, read_stops, read_keeps, left_stops, left_keeps, many_stops, many_keeps, plan_answers, plan_lends)
+pub ruleset selected_exits = (rows_there, bytes_wide, sum_total, sum_below, read_stops, read_keeps, left_stops, left_keeps, many_stops, many_keeps, plan_answers, plan_lends)
 
 -- ---- select_boundaries
 module _ {s : List ℕ} {r : CountRead} (f : CountFound s ((up_to 2 4096).read (drop 0 s)) r) {n first : ℕ} (q : r ≡ CountAt n first) where
@@ -191,4 +191,4 @@ module _ (parts low : ℕ) (s d : List ℕ) where
         pub counted_lends : {x : List ℕ} → x ≡ lent d (selected_from parts low (ended (read_many anchor.read n (drop first s))) (length d)) → x ≡ lent d (select_boundaries_outcome parts low s (length d))
         counted_lends e = e ∙ sym (ap (lent d) counted_is)
 
-pub ruleset select-exits = (anchors_place, anchors_most, parts_stop, parts_keep, long_stop, long_keep, count_stop, count_keep, counted_answers, counted_lends)
+pub ruleset select_exits = (anchors_place, anchors_most, parts_stop, parts_keep, long_stop, long_keep, count_stop, count_keep, counted_answers, counted_lends)

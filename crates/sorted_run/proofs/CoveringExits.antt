@@ -81,7 +81,7 @@ module _ {vs : List View} {asked : Range} {from idx n : ℕ} (p : Back vs asked 
             let v : table_intersects vs asked k ≡ false = ap (table_intersects vs asked) (sym z) ∙ w in
             rw v
 
-pub ruleset back-exits = (back_begin, back_none, back_place, back_more, back_ends)
+pub ruleset back_exits = (back_begin, back_none, back_place, back_more, back_ends)
 
 -- ---- by the two counts
 none_lead : (vs : List View) (asked : Range) → leading asked.end vs ≡ 0 → table_idx_covering_range vs asked ≡ nowhere
@@ -147,7 +147,7 @@ module _ {s q : List ℕ} {r : RunSpan} {asked : RangeSpan} (i : Sought s r q as
           = x.start ∙ ap (λ b. leading b (views_of s r)) (ap (bound_in q) f ∙ up_to_is q asked.start) in
           ap answer (ap (λ (m : ℕ). record { start = m; end = n.end }) (w ∙ ap (walk_back (views_of s r) (range_at q asked)) c) ∙ sym a)
 
-pub ruleset covered-exits = (sought_run, sought_end, sought_from, table_of, leads_in, covers_none, covers)
+pub ruleset covered_exits = (sought_run, sought_end, sought_from, table_of, leads_in, covers_none, covers)
 
 -- ---- table_idx_covering_range
 module _ (l q : List ℕ) (run : ℕ) {w : Asked} (x : AskedFound l q (image_and_range l q) w) where
@@ -166,4 +166,4 @@ module _ (l q : List ℕ) (run : ℕ) {w : Asked} (x : AskedFound l q (image_and
     pub covering_found : {s : RunSpan} {o : Outcome Places} → z ≡ RunAt s → o ≡ answer (table_idx_covering_range (views_of l s) (range_at q r)) → o ≡ table_idx_covering_range_outcome l run q
     covering_found h u = u ∙ sym (outcome_is (run_called y h))
 
-pub ruleset covering-exits = (image_given_lem, sought, covering_not_given, covering_no_run, covering_found)
+pub ruleset covering_exits = (image_given_lem, sought, covering_not_given, covering_no_run, covering_found)

@@ -47,7 +47,7 @@ module _ (b : BoundSpan) where
   pub up_to_excluded_lem : b.kind ≡ Excluded → record { kind = Included; at = b.at; len = b.len } ≡ up_to_span b
   up_to_excluded_lem e = rw e
 
-pub ruleset up-to-exits = (up_to_none, up_to_included, up_to_excluded_lem)
+pub ruleset up_to_exits = (up_to_none, up_to_included, up_to_excluded_lem)
 
 pub up_to_is : (q : List ℕ) (b : BoundSpan) → bound_in q (up_to_span b) ≡ up_to (bound_in q b)
 up_to_is q b = go b.kind refl
@@ -84,7 +84,7 @@ module _ (s q : List ℕ) (lead seen : ℕ) (start end : BoundSpan) where
     pub more_not : t ≡ false → lead ≡ one_more (end_holds (bound_in q end) (key_at s start)) lead seen
     more_not u = rw (le-ltb lead seen h, ← held, u)
 
-pub ruleset more-exits = (more_past, more_within, more_not)
+pub ruleset more_exits = (more_past, more_within, more_not)
 
 -- ---- put_places
 pub record Putting (s : List ℕ) (r : RunSpan) (q : List ℕ) (from to : BoundSpan) (room : ℕ) (places : List ℕ) (seen at start end : ℕ) : Type 0 where
@@ -175,4 +175,4 @@ module _ {s q : List ℕ} {r : RunSpan} {from to : BoundSpan} {room : ℕ} {plac
             ends = more (bound_in q to) p.ends g;
           }
 
-pub ruleset put-exits = (start_inside, put_begin, start_most, end_most, put_same_length, all_put, put_room, put_here, put_onward)
+pub ruleset put_exits = (start_inside, put_begin, start_most, end_most, put_same_length, all_put, put_room, put_here, put_onward)

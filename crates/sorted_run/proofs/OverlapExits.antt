@@ -111,7 +111,7 @@ module _ (s q : List ℕ) (r : RunSpan) (asked : RangeSpan) (i : RunInside s r) 
           w ∙ (ap₂ (λ u v. meets (intersect_sides (between u v) (range_at q asked))) (start_is x) (end_is y)
           ∙ sym (overlaps_by (views_of s r) r.views x.value y.value (range_at q asked) (views_long s r i) f g))
 
-pub ruleset overlap-exits = (start_inside, end_inside, no_views, first_from, first_there, one_less, others_there, last_there, span_meets)
+pub ruleset overlap_exits = (start_inside, end_inside, no_views, first_from, first_there, one_less, others_there, last_there, span_meets)
 
 -- ---- overlaps_range
 module _ (l q : List ℕ) (run : ℕ) {w : Asked} (x : AskedFound l q (image_and_range l q) w) where
@@ -130,4 +130,4 @@ module _ (l q : List ℕ) (run : ℕ) {w : Asked} (x : AskedFound l q (image_and
     pub overlap_tested : {s : RunSpan} {t : Bool} → z ≡ RunAt s → t ≡ overlaps_range (views_of l s) (range_at q r) → answer t ≡ overlaps_range_outcome l run q
     overlap_tested h u = sym (outcome_is (run_called y h) ∙ ap answer (sym u))
 
-pub ruleset overlaps-range-exits = (image_given_lem, range_given_lem, run_called_inside, overlap_not_given, overlap_no_run, overlap_tested)
+pub ruleset overlaps_range_exits = (image_given_lem, range_given_lem, run_called_inside, overlap_not_given, overlap_no_run, overlap_tested)

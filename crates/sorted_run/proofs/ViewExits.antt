@@ -57,7 +57,7 @@ module _ {s : List ℕ} {g : Got View} {v : ViewSpan} (y : ViewThere s g v) wher
         inside = record { start = f.start; end = f.end };
       }
 
-pub ruleset effective-exits = (there_inside, effective_there)
+pub ruleset effective_exits = (there_inside, effective_there)
 
 -- ---- what is there of a view
 module _ {s : List ℕ} {g : Got View} {e : EffectiveSpan} (x : EffectiveThere s g e) where
@@ -99,7 +99,7 @@ module _ {s : List ℕ} {own : RangeSpan} {g : Got View} {n : EffectiveSpan} (y 
         inside = rw f y.inside.start;
       }
 
-pub ruleset end-exits = (start_inside, end_there)
+pub ruleset end_exits = (start_inside, end_there)
 
 pub next_end_inside : {s : List ℕ} {own : RangeSpan} {g : Got View} {b : BoundSpan} → EndThere s own g b → BoundInside s b
 next_end_inside y = y.inside
@@ -152,4 +152,4 @@ module _ {s q : List ℕ} {r : RunSpan} {asked : RangeSpan} {places : List ℕ} 
         pub next_met : {t : Bool} → t ≡ meets (intersect_sides (between (bound_in s e.range.start) (bound_in s b)) (range_at q asked)) → t ≡ table_intersects (views_of s r) (range_at q asked) idx
         next_met w = met next_is bound_is w
 
-pub ruleset at-exits = (range_inside, start_inside, end_inside, place_in, next_fits, place_there, asked_inside, next_there, next_end_inside, last_met, next_met)
+pub ruleset at_exits = (range_inside, start_inside, end_inside, place_in, next_fits, place_there, asked_inside, next_there, next_end_inside, last_met, next_met)

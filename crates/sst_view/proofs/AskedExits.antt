@@ -102,7 +102,7 @@ module _ (q : List ℕ) (fault : ℕ) {w : RangeRead} (x : RangeWhole q w) where
             inside = record { start = asked_start; end = asked_end };
           }
 
-pub ruleset range-exits = (range_not_read, asked_start, asked_end, range_fails, image_fails, both_pass)
+pub ruleset range_exits = (range_not_read, asked_start, asked_end, range_fails, image_fails, both_pass)
 
 -- an image that passes with a range passes check 5
 faults_pass : (c : Checks) → leb 8 (fault_of c) ≡ true → c.tables ≡ true
@@ -165,7 +165,7 @@ module _ (l q : List ℕ) {w : Judged} (x : JudgedWhole l image_checks (whole im
     pub image_read : {r : Asked} → RangeChecked q (range_asked fault q) r → AskedFound l q (image_and_range l q) r
     image_read {r} y = by_cases r y
 
-pub ruleset asked-exits = (image_not_read, image_read)
+pub ruleset asked_exits = (image_not_read, image_read)
 
 -- ---- image_end_and_range
 then_then : {A B C : Type 0} (o : Outcome A) (f : A → Outcome B) (g : B → Outcome C) → and_then o (λ a. and_then (f a) g) ≡ and_then (and_then o f) g
@@ -210,7 +210,7 @@ module _ (l key q : List ℕ) (number : ℕ) {w : Judged} (x : JudgedWhole l ima
             inside = record { read = passed l x e q m; end = omega arith; range = rw u at z.inside };
           }
 
-pub ruleset end-exits = (end_image_not_read, end_not_given, end_no_range, end_given)
+pub ruleset end_exits = (end_image_not_read, end_not_given, end_no_range, end_given)
 
 -- ---- what a call goes on with
 module _ {l q : List ℕ} {w : Asked} (x : AskedFound l q (image_and_range l q) w) where
@@ -230,4 +230,4 @@ module _ {l q : List ℕ} {w : Asked} (x : AskedFound l q (image_and_range l q) 
     pub range_given_lem : SpanInside q r
     range_given_lem = rw e at x.inside
 
-pub ruleset given-exits = (image_given_lem, range_given_lem)
+pub ruleset given_exits = (image_given_lem, range_given_lem)

@@ -45,7 +45,7 @@ span_starts i = i.start
 pub span_ends : {s : List ℕ} {r : RangeSpan} → SpanInside s r → BoundInside s r.end
 span_ends i = i.end
 
-pub ruleset end-exits = (span_starts, span_ends, next_held, next_not_held)
+pub ruleset end_exits = (span_starts, span_ends, next_held, next_not_held)
 
 -- ---- ranges of one supplier
 module _ (a b : List ℕ) {j : JointSpan} where
@@ -70,7 +70,7 @@ pub common :
     → MetFound a b (joint.intersect (from First (range_at a r)) (from Second (range_at b asked))) m
 common a b r asked p q f = rw (p, q) at f
 
-pub ruleset common-exits = (asked_inside, image_inside, common)
+pub ruleset common_exits = (asked_inside, image_inside, common)
 
 -- ---- cut_to_view
 module _ (a b : List ℕ) (v : ViewSpan) (asked : RangeSpan) {x : JointSpan} (p : x ≡ from_span Second asked) where
@@ -91,7 +91,7 @@ module _ (a b : List ℕ) (v : ViewSpan) (asked : RangeSpan) {x : JointSpan} (p 
   unfolding calculate_view_range
   not_cut h k i = record { meaning = rw (p, h, k); inside = asked_inside a b asked p i }
 
-pub ruleset cut-exits = (asked_inside, visible_inside, effective_inside, shown_cut, last_cut_lem, not_cut)
+pub ruleset cut_exits = (asked_inside, visible_inside, effective_inside, shown_cut, last_cut_lem, not_cut)
 
 -- ---- cut_to_visible
 module _ (a b : List ℕ) (v : ViewSpan) {m : Met} where
@@ -114,7 +114,7 @@ module _ (a b : List ℕ) (v : ViewSpan) {m : Met} where
         → MetFound a b (cut_to_visible (view_in a v).visible (met_in a b m)) n
     shown k hr hz u = record { meaning = u.meaning ∙ rw (h, k, hz, hr); inside = u.inside }
 
-pub ruleset visible-exits = (none_left, at_inside, visible_inside, not_shown, shown)
+pub ruleset visible_exits = (none_left, at_inside, visible_inside, not_shown, shown)
 
 -- ---- cut_to_next
 end_in : (s : List ℕ) (held : Bool) (next : BoundSpan) → bound_in s (end_span held next) ≡ pick held (included (key_at s next)) (excluded (key_at s next))
@@ -151,7 +151,7 @@ module _ (a b : List ℕ) (v : ViewSpan) (own : RangeSpan) (next : BoundSpan) (a
 pub met_inside : (a b : List ℕ) {o : Option Joint} {m : Met} → MetFound a b o m → MetInside a b m
 met_inside a b w = w.inside
 
-pub ruleset next-exits = (own_inside, to_next_inside, met_inside, next_cut)
+pub ruleset next_exits = (own_inside, to_next_inside, met_inside, next_cut)
 
 -- ---- an intersection as a call answers it
 pub joined_found : (a b : List ℕ) {o : Option Joint} {m : Met} {j : Joined} → MetFound a b o m → j ≡ joined_of m → JointFound a b (answer o) j

@@ -79,9 +79,9 @@ module _ (a b : List ℕ) (r : RunSpan) (place : ℕ) (asked : RangeSpan) (i : R
 pub kept_joined : (a b : List ℕ) {g : Outcome (Option Joint)} (m : Met) {j : Joined} → JointFound a b g (joined_of m) → j ≡ joined_of m → JointFound a b g j
 kept_joined a b m f p = rw p f
 
-pub ruleset kept-exits = (there_inside, own_inside, start_inside, next_there, kept_to_next, kept_last)
+pub ruleset kept_exits = (there_inside, own_inside, start_inside, next_there, kept_to_next, kept_last)
 
-pub ruleset in-run-kept = (no_view_there, kept_joined)
+pub ruleset in_run_kept = (no_view_there, kept_joined)
 
 -- ---- compacted_intersection
 module _ (l q : List ℕ) (run place : ℕ) {w : Asked} (x : AskedFound l q (image_and_range l q) w) where
@@ -100,4 +100,4 @@ module _ (l q : List ℕ) (run place : ℕ) {w : Asked} (x : AskedFound l q (ima
     pub kept : {s : RunSpan} {j : Joined} → z ≡ RunAt s → JointFound l q (kept_at (views_of l s) place (range_at q r)) j → JointFound l q (compacted_intersection_outcome l run place q) j
     kept h f = same_found l q (outcome_is (run_called y h)) f
 
-pub ruleset compacted-exits = (run_called_inside, kept_not_given, kept_no_run, kept)
+pub ruleset compacted_exits = (run_called_inside, kept_not_given, kept_no_run, kept)

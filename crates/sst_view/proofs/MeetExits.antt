@@ -60,7 +60,7 @@ module _ (i e q : List ℕ) (start end : BoundSpan) (asked : RangeSpan) {s f : S
       let m = meets_is (between (bound_in i start) (bound_in e end)) (range_at q asked) in
       h ∙ rw (hl, hb, hm, hd, chosen_in s i q start asked.start, chosen_in f e q end asked.end, hs, hf) (sym m)
 
-pub ruleset meet-exits = (asked_starts, asked_ends, start_chosen, end_chosen, chosen_meets)
+pub ruleset meet_exits = (asked_starts, asked_ends, start_chosen, end_chosen, chosen_meets)
 
 -- ---- view_intersects
 -- with check 5, a view intersects where the range from its start to the end bound meets the asked range
@@ -83,4 +83,4 @@ from_start s e q v end asked f p h =
 pub effective_starts : {s : List ℕ} {v : ViewSpan} {w : RangeSpan} → EffectiveFound s v w → BoundInside s w.start
 effective_starts f = f.start
 
-pub ruleset start-exits = (from_start, effective_starts)
+pub ruleset start_exits = (from_start, effective_starts)

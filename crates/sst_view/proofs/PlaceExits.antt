@@ -65,7 +65,7 @@ module _ {s : List ℕ} {from n k at : ℕ} (p : Walked run.read s from n k at) 
           walk = walk_onward p.walk h (there_past s at f e x.is) x.inside;
         }
 
-pub ruleset run-walk = (runs_begin, runs_past, run_head_here, run_views_from, run_views_there, runs_onward)
+pub ruleset run_walk = (runs_begin, runs_past, run_head_here, run_views_from, run_views_there, runs_onward)
 
 same_placed : {s : List ℕ} {o u : Outcome View} {r : ViewRead} → o ≡ u → ViewPlaced s u r → ViewPlaced s o r
 same_placed e p = record { meaning = p.meaning ∙ sym e; inside = p.inside }
@@ -114,7 +114,7 @@ module _ {s : List ℕ} {o : Outcome (List View)} {z : RunPlaced} (y : RunCalled
     pub run_called_inside : RunInside s r
     run_called_inside = rw e at y.inside
 
-pub ruleset in-image-exits = (runs_from, not_in_image, runs_before, head_there, in_image)
+pub ruleset in_image_exits = (runs_from, not_in_image, runs_before, head_there, in_image)
 
 -- ---- view_in_run
 module _ (s : List ℕ) (r : RunSpan) (place : ℕ) (i : RunInside s r) where
@@ -136,7 +136,7 @@ module _ (s : List ℕ) (r : RunSpan) (place : ℕ) (i : RunInside s r) where
       in_run y =
           record { meaning = sym (ap placed (value_here view.read s r.first place x r.views h i.there y.meaning)); inside = y.inside }
 
-pub ruleset in-run-exits = (in_run_from, not_in_run, before_there, view_there, in_run)
+pub ruleset in_run_exits = (in_run_from, not_in_run, before_there, view_there, in_run)
 
 -- ---- view_in_image
 pub view_by_run : (i : Image) (run-place place : ℕ) → view_at i run-place place ≡ outcome.and_then (views_at i run-place) (λ vs. placed (index_at vs place))
@@ -157,7 +157,7 @@ module _ (s : List ℕ) (run-place place : ℕ) {w : RunPlaced} (x : RunCalled s
   pub view_placed : {r : RunSpan} {v : ViewRead} → w ≡ RunAt r → ViewPlaced s (placed (index_at (views_of s r) place)) v → ViewPlaced s (view_at (values_of (image.read s)) run-place place) v
   view_placed q y = same_placed (by_run (run_called x q)) y
 
-pub ruleset view-exits = (run_called_inside, no_run, view_placed)
+pub ruleset view_exits = (run_called_inside, no_run, view_placed)
 
 -- ---- view_given
 module _ (s : List ℕ) (run-place place : ℕ) {w : Judged} (x : JudgedWhole s image_checks (whole image.read s) w) where
@@ -179,4 +179,4 @@ module _ (s : List ℕ) (run-place place : ℕ) {w : Judged} (x : JudgedWhole s 
         let a = accepted x q h in
         same_placed (ap (λ o. outcome.and_then o (λ i. view_at i run-place place)) a.given ∙ sym (ap (λ g. view_at (values_of g) run-place place) a.read)) y
 
-pub ruleset given-exits = (no_image, bad_image, is_there_lem, from_image)
+pub ruleset given_exits = (no_image, bad_image, is_there_lem, from_image)

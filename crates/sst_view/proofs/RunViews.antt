@@ -91,4 +91,4 @@ starts_there s {g} {v} y f = record { value = view_in s v; rest = drop v.past s;
 pub there_inside : {s : List ℕ} {g : Got View} {v : ViewSpan} → ViewThere s g v → ViewInside s v
 there_inside y = y.inside
 
-pub ruleset start-exits = (there_inside, starts_there)
+pub ruleset start_exits = (there_inside, starts_there)

@@ -67,7 +67,7 @@ module _ (l q : List ℕ) (run place : ℕ) {w : Asked} (x : AskedFound l q (ima
     unfolding calculate_view_range_outcome
     calculated h f p = same_found l q (rw (given x e, called y h)) (joined_found l q f p)
 
-pub ruleset calculate-exits = (called_inside, calculate_not_given, calculate_no_view, calculated)
+pub ruleset calculate_exits = (called_inside, calculate_not_given, calculate_no_view, calculated)
 
 -- ---- intersects_range
 view_passes : (i : Image) (run place : ℕ) {v : View} → view_at i run place ≡ answer v → all (λ r. all table_passes r.views) i ≡ true → table_passes v ≡ true
@@ -148,4 +148,4 @@ module _ (l key q : List ℕ) (run place kind : ℕ) {w : EndAsked} (x : EndFoun
         pub intersected : {t : Bool} → t ≡ intersects_range (view_in l v) (bound_in key b) (range_at q r) → answer t ≡ intersects_range_outcome l run place kind key q
         intersected p = sym (outcome_by (ap (end_outcome l key q) e) ∙ rw (called y h, p))
 
-pub ruleset intersects-exits = (called_inside, intersects_not_given, end_image, end_bound, end_range, intersects_no_view, called_passes, intersected)
+pub ruleset intersects_exits = (called_inside, intersects_not_given, end_image, end_bound, end_range, intersects_no_view, called_passes, intersected)

@@ -84,7 +84,7 @@ module _ (a b : List ℕ) (t f s e : BoundSpan) (room : ℕ) where
 pub part_inside : (a b : List ℕ) {o : _} {m : Met} → PartFound a b o m → MetInside a b m
 part_inside a b p = p.inside
 
-pub ruleset subtracted-exits = (interval_fails_reported, interval_fails_lent, range_fails_reported, range_fails_lent, open_fails_reported, open_fails_lent, parts_reported, parts_lent, part_inside)
+pub ruleset subtracted_exits = (interval_fails_reported, interval_fails_lent, range_fails_reported, range_fails_lent, open_fails_reported, open_fails_lent, parts_reported, parts_lent, part_inside)
 
 -- ---- a range that was read
 module _ (l : List ℕ) {x : RangeRead} (i : RangeWhole l x) {s e : BoundSpan} {n : ℕ} (u : x ≡ RangeAt s e n) where
@@ -138,4 +138,4 @@ module _ (l q : List ℕ) (room : ℕ) {x : RangeRead} (i : RangeWhole l x) wher
         pub both_lent : (o : List ℕ) {g : List ℕ} → g ≡ lent o (subtracted_to room (range_in l s e) (range_in q t f)) → g ≡ lent o (subtract_from_outcome l q room)
         both_lent o c = c ∙ sym (ap (lent o) both_read)
 
-pub ruleset call-exits = (given_stops_reported, given_stops_lent, range_stops_reported, range_stops_lent, start_there, end_there, read_small, both_reported, both_lent)
+pub ruleset call_exits = (given_stops_reported, given_stops_lent, range_stops_reported, range_stops_lent, start_there, end_there, read_small, both_reported, both_lent)

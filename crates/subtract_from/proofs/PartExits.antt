@@ -49,7 +49,7 @@ module _ (a b : List ℕ) (r q : RangeSpan) {w : Sides} (h : w ≡ intersect_sid
             };
       }
 
-pub ruleset cut-exits = (cut_none, cut_met)
+pub ruleset cut_exits = (cut_none, cut_met)
 
 -- ---- part_before, part_from
 some_key : (k : Kind) (x : Key) → is_keyed k ≡ true → key_of (bound_of k x) ≡ some x
@@ -88,4 +88,4 @@ module _ (a b : List ℕ) (r : RangeSpan) (x : BoundSpan) {t : Bool} (e : t ≡ 
   unfolding part_from
   none_from w = rw (is_none w) (record { meaning = refl; inside = tt })
 
-pub ruleset part-exits = (before_found, none_before, from_found, none_from)
+pub ruleset part_exits = (before_found, none_before, from_found, none_from)

@@ -80,9 +80,9 @@ module _ (a b : List ℕ) {m : Met} where
         pub part_same : to + length (part_bytes (part_in a b m)) ≤ length d → length f ≡ length d
         part_same h = put_length u (part_room d to h)
 
-pub ruleset size-exits = (no_size, start_there, end_there, key_small, size_is)
+pub ruleset size_exits = (no_size, start_there, end_there, key_small, size_is)
 
-pub ruleset put-exits = (no_part, start_there, end_there, part_room, part_put, part_same)
+pub ruleset put_exits = (no_part, start_there, end_there, part_room, part_put, part_same)
 
 -- ---- put_parts: the count, and the parts
 pub parts_are : (a b : List ℕ) (m n : Met) → plan.write (parts_in a b m n) ≡ write_number 1 (part_count m + part_count n) ++ (part_bytes (part_in a b m) ++ part_bytes (part_in a b n))
@@ -128,7 +128,7 @@ module _ (a b : List ℕ) (m n : Met) (d : List ℕ) (room : length (plan.write 
         pub parts_same : length g ≡ length d
         parts_same = all_length d 0 (write_number 1 (i + j)) x y (roomy (i + j)) counted q r
 
-pub ruleset parts-exits = (count_room, before_room, from_room, parts_put, parts_same)
+pub ruleset parts_exits = (count_room, before_room, from_room, parts_put, parts_same)
 
 -- ---- parts_written
 module _ (a b : List ℕ) (m n : Met) {i j : ℕ} (p : i ≡ length (part_bytes (part_in a b m))) (q : j ≡ length (part_bytes (part_in a b n))) where

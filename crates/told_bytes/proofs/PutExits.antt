@@ -90,7 +90,7 @@ module _ (d : List ℕ) where
   pub nothing_there : {f : List ℕ} → 1 ≤ length d → f ≡ splice d 0 (0 ∷ []) → f ≡ lent d (written_to (length d) nothing)
   nothing_there h q = stands d nothing refl h (at_front d nothing q)
 
-pub ruleset nothing-exits = (nothing_short, nothing_kept, nothing_wrote, nothing_there)
+pub ruleset nothing_exits = (nothing_short, nothing_kept, nothing_wrote, nothing_there)
 
 -- ---- an outcome that is bytes, if they fit: n of them
 module _ (d b : List ℕ) {o : Outcome (List ℕ)} {n : ℕ} (is : o ≡ written_to (length d) b) (l : n ≡ length b) where
@@ -149,7 +149,7 @@ module _ (d : List ℕ) {p : Point} where
     pub point_there : {e f : List ℕ} → 17 ≤ length d → e ≡ splice d 0 (1 ∷ []) → f ≡ splice e 1 (place at len) → f ≡ lent d (point_to (length d) p)
     point_there h x y = there d (point_bytes at len) is size h (next d 0 (1 ∷ []) (place at len) 1 refl (omega arith) x y)
 
-pub ruleset point-exits = (point_refused, point_refused_kept, no_point, no_point_there, point_short, point_short_kept, point_wrote, point_there)
+pub ruleset point_exits = (point_refused, point_refused_kept, no_point, no_point_there, point_short, point_short_kept, point_wrote, point_there)
 
 -- ---- a range of which each bound stands in one of two slices
 abbrev joined_bytes : Supplied → Supplied → List ℕ
@@ -203,7 +203,7 @@ module _ (d : List ℕ) {j : Joined} where
         let all = next d 0 ((1 ∷ []) ++ supplied s) (supplied e) 19 (omega (arith, supplied_length s)) (omega arith) first z in
         there d (joined_bytes s e) is_j size_j h (all ∙ ap (splice d 0) (append_assoc (1 ∷ []) (supplied s) (supplied e)))
 
-pub ruleset joined-exits = (joined_refused, joined_refused_kept, no_range, no_range_there, joined_short, joined_short_kept, joined_wrote, joined_there)
+pub ruleset joined_exits = (joined_refused, joined_refused_kept, no_range, no_range_there, joined_short, joined_short_kept, joined_wrote, joined_there)
 
 -- ---- the effective range of a view
 abbrev view_bytes_lem : BoundSpan → BoundSpan → List ℕ
@@ -239,7 +239,7 @@ module _ (d : List ℕ) {v : ViewRange} where
     pub view_there : {b f : List ℕ} → 34 ≤ length d → b ≡ splice d 0 (bound s) → f ≡ splice b 17 (bound e) → f ≡ lent d (view_range_to (length d) v)
     view_there h x y = there d (view_bytes_lem s e) is_v size_v h (next d 0 (bound s) (bound e) 17 (bound_length_lem s) (omega arith) x y)
 
-pub ruleset view-exits = (view_refused, view_refused_kept, view_short, view_short_kept, view_wrote, view_there)
+pub ruleset view_exits = (view_refused, view_refused_kept, view_short, view_short_kept, view_wrote, view_there)
 
 -- ---- the bytes of a key
 module _ (d k : List ℕ) where
@@ -255,7 +255,7 @@ module _ (d k : List ℕ) where
   pub key_there_lem : {f : List ℕ} → length k ≤ length d → f ≡ splice d 0 k → f ≡ lent d (written_to (length d) k)
   key_there_lem h q = stands d k refl h (at_front d k q)
 
-pub ruleset key-exits = (key_short, key_kept, key_wrote, key_there_lem)
+pub ruleset key_exits = (key_short, key_kept, key_wrote, key_there_lem)
 
 -- ---- the key of a bound of an intersection
 no_bytes : (d : List ℕ) → written_to (length d) [] ≡ answer []
@@ -308,6 +308,6 @@ module _ (a b d : List ℕ) {j : Joined} where
       pub end_there : k ≡ bound_key (supplied_bound a b e) → {f : List ℕ} → f ≡ lent d (written_to (length d) k) → f ≡ lent d (key_to (length d) (end_key_of (joint_of a b j)))
       end_there h x = x ∙ rw (q, h)
 
-pub ruleset start-exits = (start_refused, start_refused_kept, no_start, no_start_kept, start_place_lem, start_wrote, start_there)
+pub ruleset start_exits = (start_refused, start_refused_kept, no_start, no_start_kept, start_place_lem, start_wrote, start_there)
 
-pub ruleset end-exits = (end_refused, end_refused_kept, no_end, no_end_kept, end_place_lem, end_wrote, end_there)
+pub ruleset end_exits = (end_refused, end_refused_kept, no_end, no_end_kept, end_place_lem, end_wrote, end_there)

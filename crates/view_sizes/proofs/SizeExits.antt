@@ -66,7 +66,7 @@ module _ (s : List ℕ) (v : ViewSpan) where
         let o = ap₂ (λ c d. range_in s c d) h l ∙ own_in s v.table in
         record { meaning = y.meaning ∙ (ap₂ ranges_fraction o x.meaning ∙ rw e); within = y.within }
 
-pub ruleset fraction-exits = (first_inside, last_inside, no_last, part_shown)
+pub ruleset fraction_exits = (first_inside, last_inside, no_last, part_shown)
 
 -- ---- view_size
 pub one_or_raw : (raw : ℕ) → raw ≤ 2 ^ 53 → max 1 raw ≤ 2 ^ 53
@@ -96,7 +96,7 @@ module _ (s : List ℕ) (v : ViewSpan) (h : size_passes (view_in s v).table ≡ 
           most = omega (arith, y.most, one_or_raw (v.table.index_offset + v.table.index_len) raw_most);
         }
 
-pub ruleset size-exits = (raw_most, raw_fits, whole_size, part_within, part_size_lem)
+pub ruleset size_exits = (raw_most, raw_fits, whole_size, part_within, part_size_lem)
 
 -- ---- run_size
 sum_more : (vs : List View) (v : View) → estimate_run_visible_size (vs ++ (v ∷ [])) ≡ estimate_run_visible_size vs + estimate_visible_size v
@@ -157,7 +157,7 @@ module _ {s : List ℕ} {r : RunSpan} {sum seen at : ℕ} (p : Summing s r sum s
               most = omega (arith, p.most, y.most);
             }
 
-pub ruleset sum-exits = (sum_begin, all_summed, seen_fits, view_here, here_inside, here_sized, sum_fits, sum_onward)
+pub ruleset sum_exits = (sum_begin, all_summed, seen_fits, view_here, here_inside, here_sized, sum_fits, sum_onward)
 
 -- ---- the calls on a view
 module _ (l : List ℕ) (run place : ℕ) {z : ViewRead} (y : ViewPlaced l (view_given l run place) z) where
@@ -181,7 +181,7 @@ module _ (l : List ℕ) (run place : ℕ) {z : ViewRead} (y : ViewPlaced l (view
     unfolding estimate_visible_size_outcome
     size_given x = ap answer x.meaning ∙ rw (called y e)
 
-pub ruleset call-exits = (called_inside, fraction_not_given, size_not_given, given_sized, fraction_given, size_given)
+pub ruleset call_exits = (called_inside, fraction_not_given, size_not_given, given_sized, fraction_given, size_given)
 
 -- ---- the call on a run
 module _ (l : List ℕ) (run : ℕ) {w : Judged} (x : JudgedWhole l image_checks (whole image.read l) w) where
@@ -215,4 +215,4 @@ module _ (l : List ℕ) (run : ℕ) {w : Judged} (x : JudgedWhole l image_checks
         pub run_given : {n : ℕ} → n ≡ estimate_run_visible_size (views_of l r) → answer n ≡ estimate_run_visible_size_outcome l run
         run_given f = ap answer f ∙ sym (outcome_is (run_called y q))
 
-pub ruleset run-exits = (run_called_inside, run_not_read, run_refused, run_image, run_not_there, views_sized, run_given)
+pub ruleset run_exits = (run_called_inside, run_not_read, run_refused, run_image, run_not_there, views_sized, run_given)

@@ -39,7 +39,7 @@ module _ (s : List ℕ) (b : BoundSpan) (skip : ℕ) (side : Float) where
     pub of_excluded : b.kind ≡ Excluded → BoundNumber skip side (bound_in s b) r
     of_excluded e = record { meaning = rw (e, ← m) n.meaning; within = n.within }
 
-pub ruleset bound-numbers = (of_the_side, of_included, of_excluded)
+pub ruleset bound_numbers = (of_the_side, of_included, of_excluded)
 
 -- ---- `range_len`
 pub between : (s : List ℕ) (start end : BoundSpan) (skip : ℕ) {x y : Float} → BoundNumber skip zero64 (bound_in s start) x → BoundNumber skip one64 (bound_in s end) y → RangeLen skip (range_in s start end) (sub binary64 y x)

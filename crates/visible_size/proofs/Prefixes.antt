@@ -54,4 +54,4 @@ module _ {a b : Key} {i : ℕ} (p : Alike a b i) where
       = step a b i ha hb ∙ rw (eq-eqb _ _ q) in
       record { below_a = omega arith; below_b = omega arith; rest = omega (arith, p.rest, e) }
 
-pub ruleset alike-exits = (alike_none, ended_a, ended_b, differs, alike_more)
+pub ruleset alike_exits = (alike_none, ended_a, ended_b, differs, alike_more)

@@ -32,7 +32,7 @@ module _ (r q : Range) {o : Order} {t : Bool} (e : o ≡ cmp_bound true r.start 
   unfolding same_range cmp_range
   other_starts w = rw (← e) (first_unequal o (cmp_bound false r.end q.end) (sym f ∙ w))
 
-pub ruleset same-exits = (same_starts, other_starts)
+pub ruleset same_exits = (same_starts, other_starts)
 
 -- ---- ranges_fraction
 pub len_most : {skip : ℕ} {r : Range} {x : Float} → RangeLen skip r x → T (le x one64)
@@ -60,4 +60,4 @@ module _ (physical effective : Range) {t : Bool} (e : t ≡ same_range effective
       let ly : y ≡ range_len (skip_of physical) physical = rw (← d) m.meaning in
       record { meaning = g.meaning ∙ rw (← e, w, lx, ly); within = g.within }
 
-pub ruleset fraction-exits = (len_most, whole_same, part_of)
+pub ruleset fraction_exits = (len_most, whole_same, part_of)

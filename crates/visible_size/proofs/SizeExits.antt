@@ -103,4 +103,4 @@ module _ (raw : ℕ) (f : VisibleFraction) (l : raw ≤ 2 ^ 53) (p : InPart f) w
       pub size_answered : {r : ℕ} → r ≡ max 1 n → SizeFound raw f r
       size_answered h = record { meaning = omega (arith, same, visible_is); most = omega (arith, same, rounded_most) }
 
-pub ruleset size-exits = (raw_fits, least_asked, most_asked)
+pub ruleset size_exits = (raw_fits, least_asked, most_asked)

@@ -1,30 +1,30 @@
 -- `bilqarush::union` meets its contract.
 -- Assumes nothing.
-use Rattle.bilqarush.proofs.Pairs.{join-exits}
+use Rattle.bilqarush.proofs.Pairs.{join_exits}
 use borrow.Author.Rules.{rules}
 use Rattle.bilqarush.proofs.union.Statement.{statement}
 use Rattle.bilqarush.proofs.union.Tie as tie
 
 ranges-given-requires : tie.Need-ranges-given-requires
-ranges-given-requires c κs = search (rules, join-exits)
+ranges-given-requires c κs = search (rules, join_exits)
 
 enum-known-n : tie.Need-enum-known-n
-enum-known-n c = search (rules, join-exits)
+enum-known-n c = search (rules, join_exits)
 
 enum-known-r : tie.Need-enum-known-r
-enum-known-r c = search (rules, join-exits)
+enum-known-r c = search (rules, join_exits)
 
 union-requires : tie.Need-union-requires
-union-requires c κs = search (rules, join-exits)
+union-requires c κs = search (rules, join_exits)
 
 from-sides-requires : tie.Need-from-sides-requires
-from-sides-requires c κs = search (rules, join-exits)
+from-sides-requires c κs = search (rules, join_exits)
 
 returns : tie.Need-returns
-returns c = search (rules, join-exits)
+returns c = search (rules, join_exits)
 
 returns-2 : tie.Need-returns-2
-returns-2 c = search (rules, join-exits)
+returns-2 c = search (rules, join_exits)
 
 pub union-spec : {M : Type 1} → statement M
 union-spec =

@@ -1,6 +1,6 @@
 -- `bytes_range::kept` meets its contract, by recursion on how many bytes are left.
 -- Assumes nothing.
-use Rattle.bytes_range.proofs.Joins.{kept-exits}
+use Rattle.bytes_range.proofs.Joins.{kept_exits}
 use borrow.Author.Rules.{rules}
 use Prim.Native.Nat.{ℕ, ◌<◌}
 use borrow.Fn.Kinds.{In}
@@ -27,7 +27,7 @@ kept_returns : (t : ℕ) → kept-lts.Need-returns (
   kept_below t,
   kept.Post,
 ) (kept_at t) kept.Post
-kept_returns t c = search (rules, kept-exits)
+kept_returns t c = search (rules, kept_exits)
 
 kept_sub_m : (t : ℕ) → kept-lts.Need-overflow-sub-m (
   fewer_reads.Asked,
@@ -35,7 +35,7 @@ kept_sub_m : (t : ℕ) → kept-lts.Need-overflow-sub-m (
   kept_below t,
   kept.Post,
 ) (kept_at t) kept.Post
-kept_sub_m t c = search (rules, kept-exits)
+kept_sub_m t c = search (rules, kept_exits)
 
 kept_shared_slice_read_if2 : (t : ℕ) → kept-lts.Need-shared-slice-read-if2 (
   fewer_reads.Asked,
@@ -43,7 +43,7 @@ kept_shared_slice_read_if2 : (t : ℕ) → kept-lts.Need-shared-slice-read-if2 (
   kept_below t,
   kept.Post,
 ) (kept_at t) kept.Post
-kept_shared_slice_read_if2 t c = search (rules, kept-exits)
+kept_shared_slice_read_if2 t c = search (rules, kept_exits)
 
 kept_fewer_requires : (t : ℕ) → kept-lts.Need-fewer-requires (
   fewer_reads.Asked,
@@ -51,7 +51,7 @@ kept_fewer_requires : (t : ℕ) → kept-lts.Need-fewer-requires (
   kept_below t,
   kept.Post,
 ) (kept_at t) kept.Post
-kept_fewer_requires t c κs = search (rules, kept-exits)
+kept_fewer_requires t c κs = search (rules, kept_exits)
 
 kept_kept_requires : (t : ℕ) → kept-lts.Need-kept-requires (
   fewer_reads.Asked,
@@ -59,7 +59,7 @@ kept_kept_requires : (t : ℕ) → kept-lts.Need-kept-requires (
   kept_below t,
   kept.Post,
 ) (kept_at t) kept.Post
-kept_kept_requires t c κs = search (rules, kept-exits)
+kept_kept_requires t c κs = search (rules, kept_exits)
 
 kept_returns_2 : (t : ℕ) → kept-lts.Need-returns-2 (
   fewer_reads.Asked,
@@ -67,7 +67,7 @@ kept_returns_2 : (t : ℕ) → kept-lts.Need-returns-2 (
   kept_below t,
   kept.Post,
 ) (kept_at t) kept.Post
-kept_returns_2 t c = search (rules, kept-exits)
+kept_returns_2 t c = search (rules, kept_exits)
 
 kept_returns_3 : (t : ℕ) → kept-lts.Need-returns-3 (
   fewer_reads.Asked,
@@ -75,7 +75,7 @@ kept_returns_3 : (t : ℕ) → kept-lts.Need-returns-3 (
   kept_below t,
   kept.Post,
 ) (kept_at t) kept.Post
-kept_returns_3 t c = search (rules, kept-exits)
+kept_returns_3 t c = search (rules, kept_exits)
 
 pub +kept-spec : {M : Type 1} → statement M
 +kept-spec = close μ_kept λ t. kept-lts.spec (

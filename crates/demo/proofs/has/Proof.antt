@@ -2,7 +2,7 @@
 -- Assumes nothing.
 use Prim.Native.Nat.{◌+◌, ◌-◌}
 use lib.ListN.{length}
-use Rattle.demo.proofs.Exits.{Searched, has_one, not_missing, search-exits}
+use Rattle.demo.proofs.Exits.{Searched, has_one, not_missing, search_exits}
 use borrow.Author.Rules.{rules}
 use Rattle.demo.proofs.has.Statement.{statement}
 use Rattle.demo.proofs.has.Tie as tie
@@ -14,28 +14,28 @@ abbrev decreases-loop : tie.decreases-loop
 decreases-loop t piece i₀ i = length t - i
 
 loop-holds : tie.Need-loop-init invariant-loop decreases-loop
-loop-holds c = search (rules, search-exits)
+loop-holds c = search (rules, search_exits)
 
 sub-if1 : tie.Need-overflow-sub-if1 invariant-loop decreases-loop
-sub-if1 c = search (rules, search-exits)
+sub-if1 c = search (rules, search_exits)
 
 returns : tie.Need-returns invariant-loop decreases-loop
-returns c = search (rules, search-exits)
+returns c = search (rules, search_exits)
 
 add-end : tie.Need-overflow-add-end invariant-loop decreases-loop
-add-end c = search (rules, search-exits)
+add-end c = search (rules, search_exits)
 
 sub_same : tie.Need-overflow-sub-same invariant-loop decreases-loop
-sub_same c = search (rules, search-exits)
+sub_same c = search (rules, search_exits)
 
 part-same-start : tie.Need-slice-bounds-same-start invariant-loop decreases-loop
-part-same-start c = search (rules, search-exits)
+part-same-start c = search (rules, search_exits)
 
 part-same-end : tie.Need-slice-bounds-same-end invariant-loop decreases-loop
-part-same-end c = search (rules, search-exits)
+part-same-end c = search (rules, search_exits)
 
 same-requires : tie.Need-same-requires invariant-loop decreases-loop
-same-requires c κs = search (rules, search-exits)
+same-requires c κs = search (rules, search_exits)
 
 returns-2 : tie.Need-returns-2 invariant-loop decreases-loop
 returns-2 c =
@@ -45,16 +45,16 @@ returns-2 c =
     (has_one _ _ i ((i + length l.before.before.before.args.piece.now) - i) h, not_missing _ _)
 
 add-i : tie.Need-overflow-add-i invariant-loop decreases-loop
-add-i c = search (rules, search-exits)
+add-i c = search (rules, search_exits)
 
 loop-less : tie.Need-loop-smaller invariant-loop decreases-loop
-loop-less c = search (rules, search-exits)
+loop-less c = search (rules, search_exits)
 
 loop-again : tie.Need-loop-preserved invariant-loop decreases-loop
-loop-again c = search (rules, search-exits, c.before.same.ensures.1)
+loop-again c = search (rules, search_exits, c.before.same.ensures.1)
 
 returns-3 : tie.Need-returns-3 invariant-loop decreases-loop
-returns-3 c = search (rules, search-exits)
+returns-3 c = search (rules, search_exits)
 
 pub has-spec : {M : Type 1} → statement M
 has-spec =

@@ -1,63 +1,63 @@
 -- `key::half` meets its contract.
 -- Assumes nothing.
-use Rattle.key.proofs.Digits.{word-exits}
+use Rattle.key.proofs.Digits.{word_exits}
 use borrow.Author.Rules.{rules}
 use Rattle.key.proofs.half.Statement.{statement}
 use Rattle.key.proofs.half.Tie as tie
 
 shared-slice-read-wide : tie.Need-shared-slice-read-wide
-shared-slice-read-wide c = search (rules, word-exits)
+shared-slice-read-wide c = search (rules, word_exits)
 
 wide-requires : tie.Need-wide-requires
-wide-requires c κs = search (rules, word-exits)
+wide-requires c κs = search (rules, word_exits)
 
 mul-result : tie.Need-overflow-mul-result
-mul-result c = search (rules, word-exits)
+mul-result c = search (rules, word_exits)
 
 add_wide : tie.Need-overflow-add-wide
-add_wide c = search (rules, word-exits)
+add_wide c = search (rules, word_exits)
 
 shared-slice-read-wide-2 : tie.Need-shared-slice-read-wide-2
-shared-slice-read-wide-2 c = search (rules, word-exits)
+shared-slice-read-wide-2 c = search (rules, word_exits)
 
 wide-requires-2 : tie.Need-wide-requires-2
-wide-requires-2 c κs = search (rules, word-exits)
+wide-requires-2 c κs = search (rules, word_exits)
 
 mul-result-2 : tie.Need-overflow-mul-result-2
-mul-result-2 c = search (rules, word-exits)
+mul-result-2 c = search (rules, word_exits)
 
 add-result : tie.Need-overflow-add-result
-add-result c = search (rules, word-exits)
+add-result c = search (rules, word_exits)
 
 add-wide-2 : tie.Need-overflow-add-wide-2
-add-wide-2 c = search (rules, word-exits)
+add-wide-2 c = search (rules, word_exits)
 
 shared-slice-read-wide-3 : tie.Need-shared-slice-read-wide-3
-shared-slice-read-wide-3 c = search (rules, word-exits)
+shared-slice-read-wide-3 c = search (rules, word_exits)
 
 wide-requires-3 : tie.Need-wide-requires-3
-wide-requires-3 c κs = search (rules, word-exits)
+wide-requires-3 c κs = search (rules, word_exits)
 
 mul-result-3 : tie.Need-overflow-mul-result-3
-mul-result-3 c = search (rules, word-exits)
+mul-result-3 c = search (rules, word_exits)
 
 add-result-2 : tie.Need-overflow-add-result-2
-add-result-2 c = search (rules, word-exits)
+add-result-2 c = search (rules, word_exits)
 
 add-wide-3 : tie.Need-overflow-add-wide-3
-add-wide-3 c = search (rules, word-exits)
+add-wide-3 c = search (rules, word_exits)
 
 shared-slice-read-wide-4 : tie.Need-shared-slice-read-wide-4
-shared-slice-read-wide-4 c = search (rules, word-exits)
+shared-slice-read-wide-4 c = search (rules, word_exits)
 
 wide-requires-4 : tie.Need-wide-requires-4
-wide-requires-4 c κs = search (rules, word-exits)
+wide-requires-4 c κs = search (rules, word_exits)
 
 add-result-3 : tie.Need-overflow-add-result-3
-add-result-3 c = search (rules, word-exits)
+add-result-3 c = search (rules, word_exits)
 
 returns : tie.Need-returns
-returns c = search (rules, word-exits)
+returns c = search (rules, word_exits)
 
 pub half_spec : {M : Type 1} → statement M
 half_spec =

@@ -1,7 +1,7 @@
 -- `plan_subcompaction_ranges::plan_judged` meets its contract.
 -- Assumes nothing.
 use borrow.Author.Rules.{rules}
-use Rattle.plan_subcompaction_ranges.proofs.PlanCallExits.{table-exits}
+use Rattle.plan_subcompaction_ranges.proofs.PlanCallExits.{table_exits}
 use Rattle.plan_subcompaction_ranges.proofs.plan_judged.Statement.{statement}
 use Rattle.plan_subcompaction_ranges.proofs.plan_judged.Tie as tie
 
@@ -13,7 +13,7 @@ slice-aggregate-plan-sampled-2 c = search rules
 
 plan-sampled-requires : tie.Need-plan-sampled-requires
 plan-sampled-requires c κs =
-    (search rules, (search rules, (search rules, (search (rules, table-exits), search rules))))
+    (search rules, (search rules, (search rules, (search (rules, table_exits), search rules))))
 
 same_length : tie.Need-same-length
 same_length c = search rules
@@ -29,7 +29,7 @@ slice-aggregate-plan-sampled-4 c = search rules
 
 plan-sampled-requires-2 : tie.Need-plan-sampled-requires-2
 plan-sampled-requires-2 c κs =
-    (search rules, (search rules, (search rules, (search (rules, table-exits), search rules))))
+    (search rules, (search rules, (search rules, (search (rules, table_exits), search rules))))
 
 same-length-2 : tie.Need-same-length-2
 same-length-2 c = search rules

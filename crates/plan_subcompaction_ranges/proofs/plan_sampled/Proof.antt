@@ -1,30 +1,30 @@
 -- `plan_subcompaction_ranges::plan_sampled` meets its contract.
 -- Assumes nothing.
 use borrow.Author.Rules.{rules}
-use Rattle.plan_subcompaction_ranges.proofs.PlannerExits.{plan-exits, rows_there, bytes_inside, rows_most, total_of_rows, rows_total_fits, planned_told, planned_written}
+use Rattle.plan_subcompaction_ranges.proofs.PlannerExits.{plan_exits, rows_there, bytes_inside, rows_most, total_of_rows, rows_total_fits, planned_told, planned_written}
 use Rattle.plan_subcompaction_ranges.proofs.plan_sampled.Statement.{statement}
 use Rattle.plan_subcompaction_ranges.proofs.plan_sampled.Tie as tie
 
 runs-sampled-requires : tie.Need-runs-sampled-requires
-runs-sampled-requires c κs = search (rules, plan-exits)
+runs-sampled-requires c κs = search (rules, plan_exits)
 
 enum-known-k : tie.Need-enum-known-k
-enum-known-k c = search (rules, plan-exits)
+enum-known-k c = search (rules, plan_exits)
 
 enum-known-w : tie.Need-enum-known-w
-enum-known-w c = search (rules, plan-exits)
+enum-known-w c = search (rules, plan_exits)
 
 stop-after-requires : tie.Need-stop-after-requires
-stop-after-requires c κs = search (rules, plan-exits)
+stop-after-requires c κs = search (rules, plan_exits)
 
 same_length : tie.Need-same-length
-same_length c = search (rules, plan-exits)
+same_length c = search (rules, plan_exits)
 
 same-length-2 : tie.Need-same-length-2
-same-length-2 c = search (rules, plan-exits)
+same-length-2 c = search (rules, plan_exits)
 
 returns : tie.Need-returns
-returns c = search (rules, plan-exits)
+returns c = search (rules, plan_exits)
 
 planned-few-requires : tie.Need-planned-few-requires
 planned-few-requires c κs =
@@ -34,18 +34,18 @@ planned-few-requires c κs =
       rows_there _ _ q.1.0 x (search rules) e (search rules) q.1.1.1.0,
       (
         search (rules, bytes_inside, q),
-        (search (rules, plan-exits), (total_of_rows _ _ q.1.0 x (search rules) e (search rules) q.1.1.1.0, (search (rules, rows_total_fits, q), search (rules, q)))),
+        (search (rules, plan_exits), (total_of_rows _ _ q.1.0 x (search rules) e (search rules) q.1.1.1.0, (search (rules, rows_total_fits, q), search (rules, q)))),
       ),
     )
 
 same-length-3 : tie.Need-same-length-3
-same-length-3 c = search (rules, plan-exits)
+same-length-3 c = search (rules, plan_exits)
 
 same-length-4 : tie.Need-same-length-4
-same-length-4 c = search (rules, plan-exits)
+same-length-4 c = search (rules, plan_exits)
 
 same-length-5 : tie.Need-same-length-5
-same-length-5 c = search (rules, plan-exits)
+same-length-5 c = search (rules, plan_exits)
 
 returns-2 : tie.Need-returns-2
 returns-2 c = let q = c.before.before.before.before.before.before.before.before.before.before.before.before.before.before.before.before.before.before.before.before.before.before.before.before.before.before.requires in (search (rules, planned_told, q), search (rules, planned_written, q))
@@ -63,22 +63,22 @@ planned-many-requires c κs =
     )
 
 same-length-6 : tie.Need-same-length-6
-same-length-6 c = search (rules, plan-exits)
+same-length-6 c = search (rules, plan_exits)
 
 same-length-7 : tie.Need-same-length-7
-same-length-7 c = search (rules, plan-exits)
+same-length-7 c = search (rules, plan_exits)
 
 returns-3 : tie.Need-returns-3
-returns-3 c = search (rules, plan-exits)
+returns-3 c = search (rules, plan_exits)
 
 same-length-8 : tie.Need-same-length-8
-same-length-8 c = search (rules, plan-exits)
+same-length-8 c = search (rules, plan_exits)
 
 same-length-9 : tie.Need-same-length-9
-same-length-9 c = search (rules, plan-exits)
+same-length-9 c = search (rules, plan_exits)
 
 same-length-10 : tie.Need-same-length-10
-same-length-10 c = search (rules, plan-exits)
+same-length-10 c = search (rules, plan_exits)
 
 returns-4 : tie.Need-returns-4
 returns-4 c = let q = c.before.before.before.before.before.before.before.before.before.before.before.before.before.before.before.before.before.before.before.before.before.before.before.before.before.before.requires in (search (rules, planned_told, q), search (rules, planned_written, q))

@@ -1,7 +1,7 @@
 -- `plan_subcompaction_ranges::runs_sampled` meets its contract.
 -- Assumes nothing.
 use Prim.Native.Nat.{◌-◌}
-use Rattle.plan_subcompaction_ranges.proofs.WalkExits.{runs-exits, RunsWalk}
+use Rattle.plan_subcompaction_ranges.proofs.WalkExits.{runs_exits, RunsWalk}
 use borrow.Author.Rules.{rules}
 use Rattle.plan_subcompaction_ranges.proofs.runs_sampled.Statement.{statement}
 use Rattle.plan_subcompaction_ranges.proofs.runs_sampled.Tie as tie
@@ -13,49 +13,49 @@ abbrev decreases-loop : tie.decreases-loop
 decreases-loop given indexes keys₀ bytes₀ n w₀ seen₀ at₀ keys bytes w seen at = n - seen
 
 runs-there-requires : tie.Need-runs-there-requires invariant-loop decreases-loop
-runs-there-requires c κs = search (rules, runs-exits)
+runs-there-requires c κs = search (rules, runs_exits)
 
 loop-holds : tie.Need-loop-init invariant-loop decreases-loop
-loop-holds c = search (rules, runs-exits)
+loop-holds c = search (rules, runs_exits)
 
 run-there-requires : tie.Need-run-there-requires invariant-loop decreases-loop
-run-there-requires c κs = search (rules, runs-exits)
+run-there-requires c κs = search (rules, runs_exits)
 
 views-sampled-requires : tie.Need-views-sampled-requires invariant-loop decreases-loop
-views-sampled-requires c κs = search (rules, runs-exits)
+views-sampled-requires c κs = search (rules, runs_exits)
 
 enum-known-k : tie.Need-enum-known-k invariant-loop decreases-loop
-enum-known-k c = search (rules, runs-exits)
+enum-known-k c = search (rules, runs_exits)
 
 same_length : tie.Need-same-length invariant-loop decreases-loop
-same_length c = search (rules, runs-exits)
+same_length c = search (rules, runs_exits)
 
 same-length-2 : tie.Need-same-length-2 invariant-loop decreases-loop
-same-length-2 c = search (rules, runs-exits)
+same-length-2 c = search (rules, runs_exits)
 
 returns : tie.Need-returns invariant-loop decreases-loop
-returns c = search (rules, runs-exits)
+returns c = search (rules, runs_exits)
 
 enum-known-next : tie.Need-enum-known-next invariant-loop decreases-loop
-enum-known-next c = search (rules, runs-exits)
+enum-known-next c = search (rules, runs_exits)
 
 add-seen : tie.Need-overflow-add-seen invariant-loop decreases-loop
-add-seen c = search (rules, runs-exits)
+add-seen c = search (rules, runs_exits)
 
 loop-less : tie.Need-loop-smaller invariant-loop decreases-loop
-loop-less c = search (rules, runs-exits)
+loop-less c = search (rules, runs_exits)
 
 loop-again : tie.Need-loop-preserved invariant-loop decreases-loop
-loop-again c = search (rules, runs-exits)
+loop-again c = search (rules, runs_exits)
 
 same-length-3 : tie.Need-same-length-3 invariant-loop decreases-loop
-same-length-3 c = search (rules, runs-exits)
+same-length-3 c = search (rules, runs_exits)
 
 same-length-4 : tie.Need-same-length-4 invariant-loop decreases-loop
-same-length-4 c = search (rules, runs-exits)
+same-length-4 c = search (rules, runs_exits)
 
 returns-2 : tie.Need-returns-2 invariant-loop decreases-loop
-returns-2 c = search (rules, runs-exits)
+returns-2 c = search (rules, runs_exits)
 
 pub runs-sampled-spec : {M : Type 1} → statement M
 runs-sampled-spec =

@@ -1,7 +1,7 @@
 -- `planned::put_joints` meets its contract.
 -- Assumes nothing.
 use Prim.Native.Nat.{◌-◌}
-use Rattle.planned.proofs.PlanPut.{Putting, put-exits}
+use Rattle.planned.proofs.PlanPut.{Putting, put_exits}
 use borrow.Author.Rules.{rules}
 use Rattle.planned.proofs.put_joints.Statement.{statement}
 use Rattle.planned.proofs.put_joints.Tie as tie
@@ -13,34 +13,34 @@ abbrev decreases-loop : tie.decreases-loop
 decreases-loop s marks n out₀ to₀ i₀ out to i = n - i
 
 loop-holds : tie.Need-loop-init invariant-loop decreases-loop
-loop-holds c = search (rules, put-exits)
+loop-holds c = search (rules, put_exits)
 
 mul_at : tie.Need-overflow-mul-at invariant-loop decreases-loop
-mul_at c = search (rules, put-exits)
+mul_at c = search (rules, put_exits)
 
 shared-slice-read-at : tie.Need-shared-slice-read-at invariant-loop decreases-loop
-shared-slice-read-at c = search (rules, put-exits)
+shared-slice-read-at c = search (rules, put_exits)
 
 add-i : tie.Need-overflow-add-i invariant-loop decreases-loop
-add-i c = search (rules, put-exits)
+add-i c = search (rules, put_exits)
 
 sub-put-joint : tie.Need-overflow-sub-put-joint invariant-loop decreases-loop
-sub-put-joint c = search (rules, put-exits)
+sub-put-joint c = search (rules, put_exits)
 
 put-joint-requires : tie.Need-put-joint-requires invariant-loop decreases-loop
-put-joint-requires c κs = search (rules, put-exits)
+put-joint-requires c κs = search (rules, put_exits)
 
 loop-less : tie.Need-loop-smaller invariant-loop decreases-loop
-loop-less c = search (rules, put-exits)
+loop-less c = search (rules, put_exits)
 
 loop-again : tie.Need-loop-preserved invariant-loop decreases-loop
-loop-again c = search (rules, put-exits)
+loop-again c = search (rules, put_exits)
 
 same_length : tie.Need-same-length invariant-loop decreases-loop
-same_length c = search (rules, put-exits)
+same_length c = search (rules, put_exits)
 
 returns : tie.Need-returns invariant-loop decreases-loop
-returns c = search (rules, put-exits)
+returns c = search (rules, put_exits)
 
 pub put-joints-spec : {M : Type 1} → statement M
 put-joints-spec =

@@ -1,39 +1,39 @@
 -- `sorted_run::table_idx_covering_range` meets its contract.
 -- Assumes nothing.
-use Rattle.sorted_run.proofs.CoveringExits.{covering-exits}
+use Rattle.sorted_run.proofs.CoveringExits.{covering_exits}
 use borrow.Author.Rules.{rules}
 use Rattle.sorted_run.proofs.table_idx_covering_range.Statement.{statement}
 use Rattle.sorted_run.proofs.table_idx_covering_range.Tie as tie
 
 image-and-range-requires : tie.Need-image-and-range-requires
-image-and-range-requires c κs = search (rules, covering-exits)
+image-and-range-requires c κs = search (rules, covering_exits)
 
 enum-known-k : tie.Need-enum-known-k
-enum-known-k c = search (rules, covering-exits)
+enum-known-k c = search (rules, covering_exits)
 
 enum-known-asked : tie.Need-enum-known-asked
-enum-known-asked c = search (rules, covering-exits)
+enum-known-asked c = search (rules, covering_exits)
 
 run-in-image-requires : tie.Need-run-in-image-requires
-run-in-image-requires c κs = search (rules, covering-exits)
+run-in-image-requires c κs = search (rules, covering_exits)
 
 enum-known-k-2 : tie.Need-enum-known-k-2
-enum-known-k-2 c = search (rules, covering-exits)
+enum-known-k-2 c = search (rules, covering_exits)
 
 enum-known-r : tie.Need-enum-known-r
-enum-known-r c = search (rules, covering-exits)
+enum-known-r c = search (rules, covering_exits)
 
 covered-in-run-requires : tie.Need-covered-in-run-requires
-covered-in-run-requires c κs = search (rules, covering-exits)
+covered-in-run-requires c κs = search (rules, covering_exits)
 
 returns : tie.Need-returns
-returns c = search (rules, covering-exits)
+returns c = search (rules, covering_exits)
 
 returns-2 : tie.Need-returns-2
-returns-2 c = search (rules, covering-exits)
+returns-2 c = search (rules, covering_exits)
 
 returns-3 : tie.Need-returns-3
-returns-3 c = search (rules, covering-exits)
+returns-3 c = search (rules, covering_exits)
 
 pub table-idx-covering-range-spec : {M : Type 1} → statement M
 table-idx-covering-range-spec =

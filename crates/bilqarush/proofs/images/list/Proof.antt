@@ -1,39 +1,39 @@
 -- `bilqarush::list` meets its contract.
 -- Assumes nothing.
-use Rattle.bilqarush.proofs.ImageExits.{list-exits}
+use Rattle.bilqarush.proofs.ImageExits.{list_exits}
 use borrow.Author.Rules.{rules}
 use Rattle.bilqarush.proofs.images.list.Statement.{statement}
 use Rattle.bilqarush.proofs.images.list.Tie as tie
 
 image-judged-requires : tie.Need-image-judged-requires
-image-judged-requires c κs = search (rules, list-exits)
+image-judged-requires c κs = search (rules, list_exits)
 
 enum-known-k : tie.Need-enum-known-k
-enum-known-k c = search (rules, list-exits)
+enum-known-k c = search (rules, list_exits)
 
 enum-known-fault : tie.Need-enum-known-fault
-enum-known-fault c = search (rules, list-exits)
+enum-known-fault c = search (rules, list_exits)
 
 returns : tie.Need-returns
-returns c = search (rules, list-exits)
+returns c = search (rules, list_exits)
 
 listing-len-requires : tie.Need-listing-len-requires
-listing-len-requires c κs = search (rules, list-exits)
+listing-len-requires c κs = search (rules, list_exits)
 
 returns-2 : tie.Need-returns-2
-returns-2 c = search (rules, list-exits)
+returns-2 c = search (rules, list_exits)
 
 put-listing-requires : tie.Need-put-listing-requires
-put-listing-requires c κs = search (rules, list-exits)
+put-listing-requires c κs = search (rules, list_exits)
 
 returns-3 : tie.Need-returns-3
-returns-3 c = search (rules, list-exits)
+returns-3 c = search (rules, list_exits)
 
 same_length : tie.Need-same-length
-same_length c = search (rules, list-exits)
+same_length c = search (rules, list_exits)
 
 returns-4 : tie.Need-returns-4
-returns-4 c = search (rules, list-exits)
+returns-4 c = search (rules, list_exits)
 
 pub list-spec : {M : Type 1} → statement M
 list-spec =

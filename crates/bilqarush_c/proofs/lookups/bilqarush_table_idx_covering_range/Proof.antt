@@ -1,6 +1,6 @@
 -- `bilqarush_c::lookups::bilqarush_table_idx_covering_range` meets its contract.
 -- Assumes nothing.
-use Rattle.bilqarush_c.proofs.LookupExits.{lookup-exits}
+use Rattle.bilqarush_c.proofs.LookupExits.{lookup_exits}
 use borrow.Author.Rules.{rules}
 use Rattle.bilqarush_c.proofs.lookups.bilqarush_table_idx_covering_range.Statement.{
   statement,
@@ -8,13 +8,13 @@ use Rattle.bilqarush_c.proofs.lookups.bilqarush_table_idx_covering_range.Stateme
 use Rattle.bilqarush_c.proofs.lookups.bilqarush_table_idx_covering_range.Tie as tie
 
 table-idx-covering-range-requires : tie.Need-table-idx-covering-range-requires
-table-idx-covering-range-requires c κs = search (rules, lookup-exits)
+table-idx-covering-range-requires c κs = search (rules, lookup_exits)
 
 tell-covered-requires : tie.Need-tell-covered-requires
-tell-covered-requires c κs = search (rules, lookup-exits)
+tell-covered-requires c κs = search (rules, lookup_exits)
 
 returns : tie.Need-returns
-returns c = search (rules, lookup-exits)
+returns c = search (rules, lookup_exits)
 
 pub bilqarush-table-idx-covering-range-spec : {M : Type 1} → statement M
 bilqarush-table-idx-covering-range-spec =

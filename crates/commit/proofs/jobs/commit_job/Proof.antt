@@ -1,34 +1,34 @@
 -- `commit::jobs::commit_job` meets its contract.
 -- Assumes nothing.
-use Rattle.commit.proofs.JobExits.{job-exits, job_given}
+use Rattle.commit.proofs.JobExits.{job_exits, job_given}
 use Rattle.base.specs.Bytes.{Bytes}
 use borrow.Author.Rules.{rules}
 use Rattle.commit.proofs.jobs.commit_job.Statement.{statement}
 use Rattle.commit.proofs.jobs.commit_job.Tie as tie
 
 returns : tie.Need-returns
-returns c = search (rules, job-exits)
+returns c = search (rules, job_exits)
 
 slice-aggregate-job-read : tie.Need-slice-aggregate-job-read
-slice-aggregate-job-read c = search (rules, job-exits)
+slice-aggregate-job-read c = search (rules, job_exits)
 
 job-read-requires : tie.Need-job-read-requires
-job-read-requires c κs = search (rules, job-exits)
+job-read-requires c κs = search (rules, job_exits)
 
 enum-known-k : tie.Need-enum-known-k
-enum-known-k c = search (rules, job-exits)
+enum-known-k c = search (rules, job_exits)
 
 enum-known-head : tie.Need-enum-known-head
-enum-known-head c = search (rules, job-exits)
+enum-known-head c = search (rules, job_exits)
 
 lesser-requires : tie.Need-lesser-requires
-lesser-requires c κs = search (rules, job-exits)
+lesser-requires c κs = search (rules, job_exits)
 
 returns-2 : tie.Need-returns-2
-returns-2 c = search (rules, job-exits)
+returns-2 c = search (rules, job_exits)
 
 slice-aggregate-apply : tie.Need-slice-aggregate-apply
-slice-aggregate-apply c = search (rules, job-exits)
+slice-aggregate-apply c = search (rules, job_exits)
 
 apply-requires : tie.Need-apply-requires
 apply-requires c κs =
@@ -37,13 +37,13 @@ apply-requires c κs =
     search (rules, job_given, bs, bt)
 
 returns-3 : tie.Need-returns-3
-returns-3 c = search (rules, job-exits)
+returns-3 c = search (rules, job_exits)
 
 same_length : tie.Need-same-length
-same_length c = search (rules, job-exits)
+same_length c = search (rules, job_exits)
 
 returns-4 : tie.Need-returns-4
-returns-4 c = search (rules, job-exits)
+returns-4 c = search (rules, job_exits)
 
 pub commit-job-spec : {M : Type 1} → statement M
 commit-job-spec =

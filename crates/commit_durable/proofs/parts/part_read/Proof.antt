@@ -1,48 +1,48 @@
 -- `commit_durable::parts::part_read` meets its contract.
 -- Assumes nothing.
-use Rattle.commit_durable.proofs.PartExits.{part-exits}
+use Rattle.commit_durable.proofs.PartExits.{part_exits}
 use borrow.Author.Rules.{rules}
 use Rattle.commit_durable.proofs.parts.part_read.Statement.{statement}
 use Rattle.commit_durable.proofs.parts.part_read.Tie as tie
 
 part-at-requires : tie.Need-part-at-requires
-part-at-requires c κs = search (rules, part-exits)
+part-at-requires c κs = search (rules, part_exits)
 
 enum-known-k : tie.Need-enum-known-k
-enum-known-k c = search (rules, part-exits)
+enum-known-k c = search (rules, part_exits)
 
 enum-known-start : tie.Need-enum-known-start
-enum-known-start c = search (rules, part-exits)
+enum-known-start c = search (rules, part_exits)
 
 outputs-read-requires : tie.Need-outputs-read-requires
-outputs-read-requires c κs = search (rules, part-exits)
+outputs-read-requires c κs = search (rules, part_exits)
 
 enum-known-k-2 : tie.Need-enum-known-k-2
-enum-known-k-2 c = search (rules, part-exits)
+enum-known-k-2 c = search (rules, part_exits)
 
 enum-known-o : tie.Need-enum-known-o
-enum-known-o c = search (rules, part-exits)
+enum-known-o c = search (rules, part_exits)
 
 part-more-requires : tie.Need-part-more-requires
-part-more-requires c κs = search (rules, part-exits)
+part-more-requires c κs = search (rules, part_exits)
 
 row-of-requires : tie.Need-row-of-requires
-row-of-requires c κs = search (rules, part-exits)
+row-of-requires c κs = search (rules, part_exits)
 
 put-part-requires : tie.Need-put-part-requires
-put-part-requires c κs = search (rules, part-exits, c.before.before.before.before.before.before.before.before.before.before.before.before.before.requires)
+put-part-requires c κs = search (rules, part_exits, c.before.before.before.before.before.before.before.before.before.before.before.before.before.requires)
 
 returns : tie.Need-returns
-returns c = search (rules, part-exits)
+returns c = search (rules, part_exits)
 
 returns-2 : tie.Need-returns-2
-returns-2 c = search (rules, part-exits)
+returns-2 c = search (rules, part_exits)
 
 same_length : tie.Need-same-length
-same_length c = search (rules, part-exits)
+same_length c = search (rules, part_exits)
 
 returns-3 : tie.Need-returns-3
-returns-3 c = search (rules, part-exits, c.before.before.before.before.before.before.before.before.before.before.before.before.before.before.before.before.requires)
+returns-3 c = search (rules, part_exits, c.before.before.before.before.before.before.before.before.before.before.before.before.before.before.before.before.requires)
 
 pub part-read-spec : {M : Type 1} → statement M
 part-read-spec =

@@ -1,6 +1,6 @@
 -- `commit_index::sources::sources_there` meets its contract.
 -- Assumes nothing.
-use Rattle.commit_index.proofs.SourceExits.{source-exits, SourcesLeft, all_there, one_is_not}
+use Rattle.commit_index.proofs.SourceExits.{source_exits, SourcesLeft, all_there, one_is_not}
 use borrow.Author.Rules.{rules}
 use Rattle.commit_index.proofs.sources.sources_there.Statement.{statement}
 use Rattle.commit_index.proofs.sources.sources_there.Tie as tie
@@ -12,25 +12,25 @@ abbrev decreases-loop : tie.decreases-loop
 decreases-loop image index n job from m left₀ at₀ left at = left
 
 loop-holds : tie.Need-loop-init invariant-loop decreases-loop
-loop-holds c = search (rules, source-exits)
+loop-holds c = search (rules, source_exits)
 
 number-there-requires : tie.Need-number-there-requires invariant-loop decreases-loop
-number-there-requires c κs = search (rules, source-exits)
+number-there-requires c κs = search (rules, source_exits)
 
 has-run-requires : tie.Need-has-run-requires invariant-loop decreases-loop
-has-run-requires c κs = search (rules, source-exits)
+has-run-requires c κs = search (rules, source_exits)
 
 add_at : tie.Need-overflow-add-at invariant-loop decreases-loop
-add_at c = search (rules, source-exits)
+add_at c = search (rules, source_exits)
 
 sub-left : tie.Need-overflow-sub-left invariant-loop decreases-loop
-sub-left c = search (rules, source-exits)
+sub-left c = search (rules, source_exits)
 
 loop-less : tie.Need-loop-smaller invariant-loop decreases-loop
-loop-less c = search (rules, source-exits)
+loop-less c = search (rules, source_exits)
 
 loop-again : tie.Need-loop-preserved invariant-loop decreases-loop
-loop-again c = search (rules, source-exits)
+loop-again c = search (rules, source_exits)
 
 returns : tie.Need-returns invariant-loop decreases-loop
 returns c = one_is_not c.before.before.before.before.loop.invariant (search rules) c.before.before.number_there.ensures c.before.has-run.ensures (search rules)

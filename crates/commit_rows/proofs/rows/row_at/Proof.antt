@@ -1,72 +1,72 @@
 -- `commit_rows::rows::row_at` meets its contract.
 -- Assumes nothing.
-use Rattle.commit_rows.proofs.RowExits.{row-exits}
+use Rattle.commit_rows.proofs.RowExits.{row_exits}
 use borrow.Author.Rules.{rules}
 use Rattle.commit_rows.proofs.rows.row_at.Statement.{statement}
 use Rattle.commit_rows.proofs.rows.row_at.Tie as tie
 
 mul_at : tie.Need-overflow-mul-at
-mul_at c = search (rules, row-exits)
+mul_at c = search (rules, row_exits)
 
 mul-form-of : tie.Need-overflow-mul-form-of
-mul-form-of c = search (rules, row-exits)
+mul-form-of c = search (rules, row_exits)
 
 shared-slice-read-form-of : tie.Need-shared-slice-read-form-of
-shared-slice-read-form-of c = search (rules, row-exits)
+shared-slice-read-form-of c = search (rules, row_exits)
 
 form-of-requires : tie.Need-form-of-requires
-form-of-requires c κs = search (rules, row-exits)
+form-of-requires c κs = search (rules, row_exits)
 
 add-t8 : tie.Need-overflow-add-t8
-add-t8 c = search (rules, row-exits)
+add-t8 c = search (rules, row_exits)
 
 mul-t9 : tie.Need-overflow-mul-t9
-mul-t9 c = search (rules, row-exits)
+mul-t9 c = search (rules, row_exits)
 
 shared-slice-read-t11 : tie.Need-shared-slice-read-t11
-shared-slice-read-t11 c = search (rules, row-exits)
+shared-slice-read-t11 c = search (rules, row_exits)
 
 add-t12 : tie.Need-overflow-add-t12
-add-t12 c = search (rules, row-exits)
+add-t12 c = search (rules, row_exits)
 
 mul-t13 : tie.Need-overflow-mul-t13
-mul-t13 c = search (rules, row-exits)
+mul-t13 c = search (rules, row_exits)
 
 shared-slice-read-t15 : tie.Need-shared-slice-read-t15
-shared-slice-read-t15 c = search (rules, row-exits)
+shared-slice-read-t15 c = search (rules, row_exits)
 
 add-t16 : tie.Need-overflow-add-t16
-add-t16 c = search (rules, row-exits)
+add-t16 c = search (rules, row_exits)
 
 mul-t17 : tie.Need-overflow-mul-t17
-mul-t17 c = search (rules, row-exits)
+mul-t17 c = search (rules, row_exits)
 
 shared-slice-read-t19 : tie.Need-shared-slice-read-t19
-shared-slice-read-t19 c = search (rules, row-exits)
+shared-slice-read-t19 c = search (rules, row_exits)
 
 add-bound-at : tie.Need-overflow-add-bound-at
-add-bound-at c = search (rules, row-exits)
+add-bound-at c = search (rules, row_exits)
 
 bound-at-requires : tie.Need-bound-at-requires
-bound-at-requires c κs = search (rules, row-exits)
+bound-at-requires c κs = search (rules, row_exits)
 
 add-bound-at-2 : tie.Need-overflow-add-bound-at-2
-add-bound-at-2 c = search (rules, row-exits)
+add-bound-at-2 c = search (rules, row_exits)
 
 bound-at-requires-2 : tie.Need-bound-at-requires-2
-bound-at-requires-2 c κs = search (rules, row-exits)
+bound-at-requires-2 c κs = search (rules, row_exits)
 
 add-t24 : tie.Need-overflow-add-t24
-add-t24 c = search (rules, row-exits)
+add-t24 c = search (rules, row_exits)
 
 mul-t25 : tie.Need-overflow-mul-t25
-mul-t25 c = search (rules, row-exits)
+mul-t25 c = search (rules, row_exits)
 
 shared-slice-read-t27 : tie.Need-shared-slice-read-t27
-shared-slice-read-t27 c = search (rules, row-exits)
+shared-slice-read-t27 c = search (rules, row_exits)
 
 returns : tie.Need-returns
-returns c = search (rules, row-exits)
+returns c = search (rules, row_exits)
 
 pub row-at-spec : {M : Type 1} → statement M
 row-at-spec =

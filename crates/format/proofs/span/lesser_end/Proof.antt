@@ -1,21 +1,21 @@
 -- `format::span::lesser_end` meets its contract: it says of the bounds what it says of their kinds and keys.
 -- Assumes nothing.
-use Rattle.format.proofs.Spans.{bound-pairs}
+use Rattle.format.proofs.Spans.{bound_pairs}
 use borrow.Author.Rules.{rules}
 use Rattle.format.proofs.span.lesser_end.Statement.{statement}
 use Rattle.format.proofs.span.lesser_end.Tie as tie
 
 key-of-requires : tie.Need-key-of-requires
-key-of-requires c κs = search (rules, bound-pairs)
+key-of-requires c κs = search (rules, bound_pairs)
 
 key-of-requires-2 : tie.Need-key-of-requires-2
-key-of-requires-2 c κs = search (rules, bound-pairs)
+key-of-requires-2 c κs = search (rules, bound_pairs)
 
 end-side-requires : tie.Need-end-side-requires
-end-side-requires c κs = search (rules, bound-pairs)
+end-side-requires c κs = search (rules, bound_pairs)
 
 returns : tie.Need-returns
-returns c = search (rules, bound-pairs)
+returns c = search (rules, bound_pairs)
 
 pub lesser-end-spec : {M : Type 1} → statement M
 lesser-end-spec = tie.close (tie.spec key-of-requires key-of-requires-2 end-side-requires returns)

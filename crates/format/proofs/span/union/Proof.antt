@@ -1,27 +1,27 @@
 -- `format::span::union` meets its contract: it says of the ranges what it says of their kinds and keys.
 -- Assumes nothing.
-use Rattle.format.proofs.Spans.{span-exits}
+use Rattle.format.proofs.Spans.{span_exits}
 use borrow.Author.Rules.{rules}
 use Rattle.format.proofs.span.union.Statement.{statement}
 use Rattle.format.proofs.span.union.Tie as tie
 
 key-of-requires : tie.Need-key-of-requires
-key-of-requires c κs = search (rules, span-exits)
+key-of-requires c κs = search (rules, span_exits)
 
 key-of-requires-2 : tie.Need-key-of-requires-2
-key-of-requires-2 c κs = search (rules, span-exits)
+key-of-requires-2 c κs = search (rules, span_exits)
 
 key-of-requires-3 : tie.Need-key-of-requires-3
-key-of-requires-3 c κs = search (rules, span-exits)
+key-of-requires-3 c κs = search (rules, span_exits)
 
 key-of-requires-4 : tie.Need-key-of-requires-4
-key-of-requires-4 c κs = search (rules, span-exits)
+key-of-requires-4 c κs = search (rules, span_exits)
 
 union-requires : tie.Need-union-requires
-union-requires c κs = search (rules, span-exits)
+union-requires c κs = search (rules, span_exits)
 
 returns : tie.Need-returns
-returns c = search (rules, span-exits)
+returns c = search (rules, span_exits)
 
 pub union-spec : {M : Type 1} → statement M
 union-spec =

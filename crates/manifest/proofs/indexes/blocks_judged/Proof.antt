@@ -1,6 +1,6 @@
 -- `manifest::blocks_judged` meets its contract.
 -- Assumes nothing.
-use Rattle.manifest.proofs.IndexExits.{blocks-exits, BlocksSeen}
+use Rattle.manifest.proofs.IndexExits.{blocks_exits, BlocksSeen}
 use borrow.Author.Rules.{rules}
 use Rattle.manifest.proofs.indexes.blocks_judged.Statement.{statement}
 use Rattle.manifest.proofs.indexes.blocks_judged.Tie as tie
@@ -12,37 +12,37 @@ abbrev decreases-loop : tie.decreases-loop
 decreases-loop s from n left₀ at₀ fault₀ before₀ left at fault before = left
 
 loop-holds : tie.Need-loop-init invariant-loop decreases-loop
-loop-holds c = search (rules, blocks-exits)
+loop-holds c = search (rules, blocks_exits)
 
 block-at-requires : tie.Need-block-at-requires invariant-loop decreases-loop
-block-at-requires c κs = search (rules, blocks-exits)
+block-at-requires c κs = search (rules, blocks_exits)
 
 enum-known-k : tie.Need-enum-known-k invariant-loop decreases-loop
-enum-known-k c = search (rules, blocks-exits)
+enum-known-k c = search (rules, blocks_exits)
 
 returns : tie.Need-returns invariant-loop decreases-loop
-returns c = search (rules, blocks-exits)
+returns c = search (rules, blocks_exits)
 
 enum-known-start : tie.Need-enum-known-start invariant-loop decreases-loop
-enum-known-start c = search (rules, blocks-exits)
+enum-known-start c = search (rules, blocks_exits)
 
 order-fault-requires : tie.Need-order-fault-requires invariant-loop decreases-loop
-order-fault-requires c κs = search (rules, blocks-exits)
+order-fault-requires c κs = search (rules, blocks_exits)
 
 lesser-requires : tie.Need-lesser-requires invariant-loop decreases-loop
-lesser-requires c κs = search (rules, blocks-exits)
+lesser-requires c κs = search (rules, blocks_exits)
 
 sub-left : tie.Need-overflow-sub-left invariant-loop decreases-loop
-sub-left c = search (rules, blocks-exits)
+sub-left c = search (rules, blocks_exits)
 
 loop-less : tie.Need-loop-smaller invariant-loop decreases-loop
-loop-less c = search (rules, blocks-exits)
+loop-less c = search (rules, blocks_exits)
 
 loop-again : tie.Need-loop-preserved invariant-loop decreases-loop
-loop-again c = search (rules, blocks-exits)
+loop-again c = search (rules, blocks_exits)
 
 returns-2 : tie.Need-returns-2 invariant-loop decreases-loop
-returns-2 c = search (rules, blocks-exits)
+returns-2 c = search (rules, blocks_exits)
 
 pub blocks-judged-spec : {M : Type 1} → statement M
 blocks-judged-spec =

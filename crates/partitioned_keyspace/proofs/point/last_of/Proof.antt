@@ -1,18 +1,18 @@
 -- `partitioned_keyspace::point::last_of` meets its contract: by the test of its definition.
 -- Assumes nothing.
-use Rattle.partitioned_keyspace.proofs.PointExits.{found-exits}
+use Rattle.partitioned_keyspace.proofs.PointExits.{found_exits}
 use borrow.Author.Rules.{rules}
 use Rattle.partitioned_keyspace.proofs.point.last_of.Statement.{statement}
 use Rattle.partitioned_keyspace.proofs.point.last_of.Tie as tie
 
 sub-t3 : tie.Need-overflow-sub-t3
-sub-t3 c = search (rules, found-exits)
+sub-t3 c = search (rules, found_exits)
 
 returns : tie.Need-returns
-returns c = search (rules, found-exits)
+returns c = search (rules, found_exits)
 
 returns-2 : tie.Need-returns-2
-returns-2 c = search (rules, found-exits)
+returns-2 c = search (rules, found_exits)
 
 pub last-of-spec : {M : Type 1} → statement M
 last-of-spec = tie.close (tie.spec sub-t3 returns returns-2)

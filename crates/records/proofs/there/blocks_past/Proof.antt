@@ -1,6 +1,6 @@
 -- `records::blocks_past` meets its contract.
 -- Assumes nothing.
-use Rattle.records.proofs.Pasts.{block-walk, Walked}
+use Rattle.records.proofs.Pasts.{block_walk, Walked}
 use Prim.Native.Nat.{◌-◌}
 use Rattle.records.specs.Layouts.{block}
 use borrow.Author.Rules.{rules}
@@ -14,28 +14,28 @@ abbrev decreases-loop : tie.decreases-loop
 decreases-loop s from n seen₀ at₀ seen at = n - seen
 
 loop-holds : tie.Need-loop-init invariant-loop decreases-loop
-loop-holds c = search (rules, block-walk)
+loop-holds c = search (rules, block_walk)
 
 add-key-there : tie.Need-overflow-add-key-there invariant-loop decreases-loop
-add-key-there c = search (rules, block-walk)
+add-key-there c = search (rules, block_walk)
 
 key-there-requires : tie.Need-key-there-requires invariant-loop decreases-loop
-key-there-requires c κs = search (rules, block-walk)
+key-there-requires c κs = search (rules, block_walk)
 
 add_at : tie.Need-overflow-add-at invariant-loop decreases-loop
-add_at c = search (rules, block-walk)
+add_at c = search (rules, block_walk)
 
 add-seen : tie.Need-overflow-add-seen invariant-loop decreases-loop
-add-seen c = search (rules, block-walk)
+add-seen c = search (rules, block_walk)
 
 loop-less : tie.Need-loop-smaller invariant-loop decreases-loop
-loop-less c = search (rules, block-walk)
+loop-less c = search (rules, block_walk)
 
 loop-again : tie.Need-loop-preserved invariant-loop decreases-loop
-loop-again c = search (rules, block-walk)
+loop-again c = search (rules, block_walk)
 
 returns : tie.Need-returns invariant-loop decreases-loop
-returns c = search (rules, block-walk)
+returns c = search (rules, block_walk)
 
 pub blocks-past-spec : {M : Type 1} → statement M
 blocks-past-spec =

@@ -1,6 +1,6 @@
 -- `records::views_end` meets its contract.
 -- Assumes nothing.
-use Rattle.records.proofs.Pasts.{view-walk, Walked}
+use Rattle.records.proofs.Pasts.{view_walk, Walked}
 use Prim.Native.Nat.{◌-◌}
 use Rattle.records.specs.Layouts.{view}
 use borrow.Author.Rules.{rules}
@@ -14,22 +14,22 @@ abbrev decreases-loop : tie.decreases-loop
 decreases-loop s from n seen₀ at₀ seen at = n - seen
 
 loop-holds : tie.Need-loop-init invariant-loop decreases-loop
-loop-holds c = search (rules, view-walk)
+loop-holds c = search (rules, view_walk)
 
 view-there-requires : tie.Need-view-there-requires invariant-loop decreases-loop
-view-there-requires c κs = search (rules, view-walk)
+view-there-requires c κs = search (rules, view_walk)
 
 add-seen : tie.Need-overflow-add-seen invariant-loop decreases-loop
-add-seen c = search (rules, view-walk)
+add-seen c = search (rules, view_walk)
 
 loop-less : tie.Need-loop-smaller invariant-loop decreases-loop
-loop-less c = search (rules, view-walk)
+loop-less c = search (rules, view_walk)
 
 loop-again : tie.Need-loop-preserved invariant-loop decreases-loop
-loop-again c = search (rules, view-walk)
+loop-again c = search (rules, view_walk)
 
 returns : tie.Need-returns invariant-loop decreases-loop
-returns c = search (rules, view-walk)
+returns c = search (rules, view_walk)
 
 pub views-end-spec : {M : Type 1} → statement M
 views-end-spec =

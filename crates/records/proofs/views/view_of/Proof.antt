@@ -1,45 +1,45 @@
 -- `records::view_of` meets its contract: after the table, the flag and the range.
 -- Assumes nothing.
-use Rattle.records.proofs.ViewExits.{view-of-exits}
+use Rattle.records.proofs.ViewExits.{view_of_exits}
 use borrow.Author.Rules.{rules}
 use Rattle.records.proofs.views.view_of.Statement.{statement}
 use Rattle.records.proofs.views.view_of.Tie as tie
 
 returns : tie.Need-returns
-returns c = search (rules, view-of-exits)
+returns c = search (rules, view_of_exits)
 
 shared-slice-read-flag-of : tie.Need-shared-slice-read-flag-of
-shared-slice-read-flag-of c = search (rules, view-of-exits)
+shared-slice-read-flag-of c = search (rules, view_of_exits)
 
 flag-of-requires : tie.Need-flag-of-requires
-flag-of-requires c κs = search (rules, view-of-exits)
+flag-of-requires c κs = search (rules, view_of_exits)
 
 enum-known-n : tie.Need-enum-known-n
-enum-known-n c = search (rules, view-of-exits)
+enum-known-n c = search (rules, view_of_exits)
 
 enum-known-shown : tie.Need-enum-known-shown
-enum-known-shown c = search (rules, view-of-exits)
+enum-known-shown c = search (rules, view_of_exits)
 
 add-visible-at : tie.Need-overflow-add-visible-at
-add-visible-at c = search (rules, view-of-exits)
+add-visible-at c = search (rules, view_of_exits)
 
 visible-at-requires : tie.Need-visible-at-requires
-visible-at-requires c κs = search (rules, view-of-exits)
+visible-at-requires c κs = search (rules, view_of_exits)
 
 enum-known-n-2 : tie.Need-enum-known-n-2
-enum-known-n-2 c = search (rules, view-of-exits)
+enum-known-n-2 c = search (rules, view_of_exits)
 
 enum-known-start : tie.Need-enum-known-start
-enum-known-start c = search (rules, view-of-exits)
+enum-known-start c = search (rules, view_of_exits)
 
 returns-2 : tie.Need-returns-2
-returns-2 c = search (rules, view-of-exits)
+returns-2 c = search (rules, view_of_exits)
 
 returns-3 : tie.Need-returns-3
-returns-3 c = search (rules, view-of-exits)
+returns-3 c = search (rules, view_of_exits)
 
 returns-4 : tie.Need-returns-4
-returns-4 c = search (rules, view-of-exits)
+returns-4 c = search (rules, view_of_exits)
 
 pub view-of-spec : {M : Type 1} → statement M
 view-of-spec =

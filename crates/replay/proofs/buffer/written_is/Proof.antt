@@ -1,6 +1,6 @@
 -- `replay::written_is` meets its contract.
 -- Assumes nothing.
-use Rattle.replay.proofs.Agreed.{agreed-exits}
+use Rattle.replay.proofs.Agreed.{agreed_exits}
 use borrow.Author.Rules.{rules}
 use Rattle.replay.proofs.buffer.written_is.Statement.{statement}
 use Rattle.replay.proofs.buffer.written_is.Tie as tie
@@ -18,10 +18,10 @@ stop-is-requires : tie.Need-stop-is-requires
 stop-is-requires c κs = search rules
 
 returns : tie.Need-returns
-returns c = search (rules, agreed-exits)
+returns c = search (rules, agreed_exits)
 
 returns-2 : tie.Need-returns-2
-returns-2 c = search (rules, agreed-exits)
+returns-2 c = search (rules, agreed_exits)
 
 pub written-is-spec : {M : Type 1} → statement M
 written-is-spec =

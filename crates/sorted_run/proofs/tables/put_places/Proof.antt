@@ -1,6 +1,6 @@
 -- `sorted_run::tables::put_places` meets its contract.
 -- Assumes nothing.
-use Rattle.sorted_run.proofs.LeadExits.{put-exits, Putting}
+use Rattle.sorted_run.proofs.LeadExits.{put_exits, Putting}
 use Prim.Native.Nat.{◌-◌}
 use lib.ListN.{length}
 use borrow.Author.Rules.{rules}
@@ -14,37 +14,37 @@ abbrev decreases-loop : tie.decreases-loop
 decreases-loop image r range from to places₀ seen₀ at₀ start₀ end₀ places seen at start end = r.views - seen
 
 loop-holds : tie.Need-loop-init invariant-loop decreases-loop
-loop-holds c = search (rules, put-exits)
+loop-holds c = search (rules, put_exits)
 
 mul-places : tie.Need-overflow-mul-places invariant-loop decreases-loop
-mul-places c = search (rules, put-exits)
+mul-places c = search (rules, put_exits)
 
 slice-write-places : tie.Need-slice-write-places invariant-loop decreases-loop
-slice-write-places c = search (rules, put-exits)
+slice-write-places c = search (rules, put_exits)
 
 effective-there-requires : tie.Need-effective-there-requires invariant-loop decreases-loop
-effective-there-requires c κs = search (rules, put-exits)
+effective-there-requires c κs = search (rules, put_exits)
 
 one-more-requires : tie.Need-one-more-requires invariant-loop decreases-loop
-one-more-requires c κs = search (rules, put-exits)
+one-more-requires c κs = search (rules, put_exits)
 
 one-more-requires-2 : tie.Need-one-more-requires-2 invariant-loop decreases-loop
-one-more-requires-2 c κs = search (rules, put-exits)
+one-more-requires-2 c κs = search (rules, put_exits)
 
 add-seen : tie.Need-overflow-add-seen invariant-loop decreases-loop
-add-seen c = search (rules, put-exits)
+add-seen c = search (rules, put_exits)
 
 loop-less : tie.Need-loop-smaller invariant-loop decreases-loop
-loop-less c = search (rules, put-exits)
+loop-less c = search (rules, put_exits)
 
 loop-again : tie.Need-loop-preserved invariant-loop decreases-loop
-loop-again c = search (rules, put-exits)
+loop-again c = search (rules, put_exits)
 
 same_length : tie.Need-same-length invariant-loop decreases-loop
-same_length c = search (rules, put-exits)
+same_length c = search (rules, put_exits)
 
 returns : tie.Need-returns invariant-loop decreases-loop
-returns c = search (rules, put-exits)
+returns c = search (rules, put_exits)
 
 pub put-places-spec : {M : Type 1} → statement M
 put-places-spec =

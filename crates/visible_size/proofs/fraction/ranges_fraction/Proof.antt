@@ -1,7 +1,7 @@
 -- `visible_size::fraction::ranges_fraction` meets its contract, by what its callees answer.
 -- Assumes nothing.
 use Rattle.std.proofs.Common.{rules}
-use Rattle.visible_size.proofs.RangeExits.{fraction-exits, part_of}
+use Rattle.visible_size.proofs.RangeExits.{fraction_exits, part_of}
 use Rattle.visible_size.proofs.fraction.ranges_fraction.Statement.{statement}
 use Rattle.visible_size.proofs.fraction.ranges_fraction.Tie as tie
 
@@ -24,10 +24,10 @@ range-len-requires-2 : tie.Need-range-len-requires-2
 range-len-requires-2 c κs = search rules
 
 lengths-fraction-requires : tie.Need-lengths-fraction-requires
-lengths-fraction-requires c κs = search (rules, fraction-exits)
+lengths-fraction-requires c κs = search (rules, fraction_exits)
 
 returns : tie.Need-returns
-returns c = search (rules, fraction-exits)
+returns c = search (rules, fraction_exits)
 
 returns-2 : tie.Need-returns-2
 returns-2 c =

@@ -1,6 +1,6 @@
 -- `visible_size::size::visible_size` meets its contract.
 -- Assumes nothing.
-use Rattle.visible_size.proofs.SizeExits.{size-exits, size_answered}
+use Rattle.visible_size.proofs.SizeExits.{size_exits, size_answered}
 use Rattle.std.proofs.Common.{arith, rules}
 use Rattle.visible_size.proofs.size.visible_size.Statement.{statement}
 use Rattle.visible_size.proofs.size.visible_size.Tie as tie
@@ -11,7 +11,7 @@ use Rattle.visible_size.proofs.size.round_away.Reads as round-away-reads
 
 -- src/size.rt:33:27
 int-to-float-round-away : tie.Need-int-to-float-round-away
-int-to-float-round-away c = search (rules, size-exits)
+int-to-float-round-away c = search (rules, size_exits)
 
 -- src/size.rt:33:40
 fraction-number-requires : tie.Need-fraction-number-requires
@@ -19,7 +19,7 @@ fraction-number-requires c κs = tt
 
 -- src/size.rt:33:9
 round-away-requires : tie.Need-round-away-requires
-round-away-requires c κs = search (rules, size-exits)
+round-away-requires c κs = search (rules, size_exits)
 
 -- src/size.rt:29:1
 returns : tie.Need-returns
