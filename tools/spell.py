@@ -17,7 +17,8 @@ USE = re.compile(r"^\s*(?:ghost )?(?:pub )?use ([^\s{;]+?)(?:\.\{([^}]*)\})?(?: 
 WORDS = {"use", "let", "where", "in", "pub", "module", "open", "elim", "mod", "rw", "record", "data", "abbrev"}
 
 
-# Types whose names had a dash.
+# Variables and local names that no line declares; types whose names had a dash.
+EXTRA = ["dataEnd", "gap-table", "ranges-2", "readWhole", "run-place", "rangeBy"]
 TYPES = {"Demand-3": "Demand3", "Is-part": "IsPart", "View-rest": "ViewRest"}
 RESERVED = {"first_of", "search", "simp", "grind", "omega", "cc", "rw", "hlevel", "assumption", "ground", "open", "syntax", "absurd", "subst", "ap", "in", "data"}
 
@@ -109,6 +110,7 @@ def main(argv):
     words = {n: snake(n) for n in names if "-" not in n}
     table = dict(words)
     table.update(TYPES)
+    table.update({n: snake(n) for n in EXTRA})
     left = []
     for n in sorted(names - set(words)):
         s = snake(n)

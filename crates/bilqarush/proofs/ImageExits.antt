@@ -45,8 +45,8 @@ module _ {s : List ℕ} {w : Judged} (x : JudgedWhole s image_checks (whole imag
 pub ruleset check_exits = (unread, failing, passing)
 
 -- ---- compacted_effective_range
-module _ (s : List ℕ) (run-place place : ℕ) {r : ViewRead} (x : ViewPlaced s (view_given s run-place place) r) where
-  pub not_placed : {k : ℕ} → r ≡ ViewStop k → ViewRangeFound s (compacted_effective_range_outcome s run-place place) (RangeStop k)
+module _ (s : List ℕ) (run_place place : ℕ) {r : ViewRead} (x : ViewPlaced s (view_given s run_place place) r) where
+  pub not_placed : {k : ℕ} → r ≡ ViewStop k → ViewRangeFound s (compacted_effective_range_outcome s run_place place) (RangeStop k)
   unfolding compacted_effective_range_outcome
   not_placed q = record { meaning = rw (← x.meaning, q); inside = tt }
 
@@ -54,7 +54,7 @@ module _ (s : List ℕ) (run-place place : ℕ) {r : ViewRead} (x : ViewPlaced s
     pub placed_inside : ViewInside s v
     placed_inside = rw q at x.inside
 
-    pub range_of : {e : RangeSpan} → EffectiveFound s v e → ViewRangeFound s (compacted_effective_range_outcome s run-place place) (At e.start e.end)
+    pub range_of : {e : RangeSpan} → EffectiveFound s v e → ViewRangeFound s (compacted_effective_range_outcome s run_place place) (At e.start e.end)
     unfolding compacted_effective_range_outcome
     range_of {e} y =
         record {

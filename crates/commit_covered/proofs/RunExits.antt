@@ -35,14 +35,14 @@ unfolding covered_by all
 covered_cons gs r i j = refl
 
 -- the first k runs are covered
-pub record RunsSeen (given s index gap-table : List ℕ) (h : CoverHead) (k : ℕ) : Type 0 where
-  pub ready : CoverReady given s index gap-table h
+pub record RunsSeen (given s index gap_table : List ℕ) (h : CoverHead) (k : ℕ) : Type 0 where
+  pub ready : CoverReady given s index gap_table h
   pub same : covered_by (job_gaps s) (image_of given) (job_of s) ≡ covered_by (job_gaps s) (drop k (image_of given)) (job_of s)
 
-pub runs_begin : (given s index gap-table : List ℕ) (h : CoverHead) → CoverReady given s index gap-table h → RunsSeen given s index gap-table h 0
-runs_begin given s index gap-table h p = record { ready = p; same = refl }
+pub runs_begin : (given s index gap_table : List ℕ) (h : CoverHead) → CoverReady given s index gap_table h → RunsSeen given s index gap_table h 0
+runs_begin given s index gap_table h p = record { ready = p; same = refl }
 
-module _ {given s index gap-table : List ℕ} {h : CoverHead} {k : ℕ} (x : RunsSeen given s index gap-table h k) where
+module _ {given s index gap_table : List ℕ} {h : CoverHead} {k : ℕ} (x : RunsSeen given s index gap_table h k) where
   pub runs_all : h.runs ≤ k → true ≡ covered_by (job_gaps s) (image_of given) (job_of s)
   runs_all l =
       let d : drop k (image_of given) ≡ [] = drop_of_length-le (image_of given) {i = k} (omega (arith, x.ready.runs.count)) in
@@ -76,7 +76,7 @@ module _ {given s index gap-table : List ℕ} {h : CoverHead} {k : ℕ} (x : Run
           ∙ covered_cons (job_gaps s) f.run (drop (k + 1) (image_of given)) (job_of s)
           ∙ rw (f.held.id, x.ready.destination)
 
-      pub runs_other : (y.id ≡ h.destination → ⊥) → RunsSeen given s index gap-table h (k + 1)
+      pub runs_other : (y.id ≡ h.destination → ⊥) → RunsSeen given s index gap_table h (k + 1)
       runs_other e = record { ready = x.ready; same = here ∙ rw (ne_eqb y.id h.destination e) }
 
       module _ (e : y.id ≡ h.destination) {b : Bool} (q : b ≡ views_covered (job_gaps s) (job_of s).parts (values_of (read_many view.read y.views (drop y.first given)))) where
@@ -86,7 +86,7 @@ module _ {given s index gap-table : List ℕ} {h : CoverHead} {k : ℕ} (x : Run
         pub runs_left : b ≡ false → false ≡ covered_by (job_gaps s) (image_of given) (job_of s)
         runs_left z = sym (here ∙ rw (eq-eqb y.id h.destination e, run_is, z))
 
-        pub runs_onward : b ≡ true → RunsSeen given s index gap-table h (k + 1)
+        pub runs_onward : b ≡ true → RunsSeen given s index gap_table h (k + 1)
         runs_onward z = record { ready = x.ready; same = here ∙ rw (eq-eqb y.id h.destination e, run_is, z) }
 
 pub ruleset runs_exits = (runs_begin, runs_all, runs_next, runs_views, runs_other, runs_left, runs_onward)

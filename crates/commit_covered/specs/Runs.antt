@@ -8,10 +8,10 @@ use Rattle.commit_covered.specs.declared.runs.CoverHead.{CoverHead}
 
 -- The runs of the image `given` and the gaps of the job s stand in tables, the image passed the checks 5 and 6, and h has
 -- the job's destination.
-pub record CoverReady (given s index gap-table : List ℕ) (h : CoverHead) : Type 0 where
+pub record CoverReady (given s index gap_table : List ℕ) (h : CoverHead) : Type 0 where
   pub runs : IndexHold given h.runs index
   pub tables : (image_checks (image_of given)).tables ≡ true
   pub order : (image_checks (image_of given)).order ≡ true
-  pub gaps : GapsHold s h.gaps gap-table
+  pub gaps : GapsHold s h.gaps gap_table
   pub ordered : GapsOrdered s
   pub destination : h.destination ≡ (job_of s).destination

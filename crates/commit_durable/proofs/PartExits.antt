@@ -13,7 +13,7 @@ use borrow.Author.Tests.{ne_eqb}
 use Rattle.base.specs.Rows.{RowsHold, hold_none, hold_more}
 use Rattle.base.specs.Splice.{splice, spliced_length}
 use Rattle.key.specs.Order.{Key}
-use Rattle.comparable_range.specs.Range.{Range, range_of as rangeBy, non_empty}
+use Rattle.comparable_range.specs.Range.{Range, range_of as range_by, non_empty}
 use Rattle.comparable_range.specs.Cut.{below, cut_at_most, start_cut, end_cut}
 use Rattle.comparable_range.specs.declared.Kind.{Kind}
 use Rattle.comparable_range.specs.declared.Kind.TheVariants.{Unbounded, Included, Excluded}
@@ -63,7 +63,7 @@ module _ (s : List ℕ) (r : RangeSpan) {t : Bool} (h : t ≡ non_empty (range_i
 pub ruleset planned_exits = (planned_passes, planned_fails)
 
 -- ---- planned_after
-pub half_open_lem : (ks ke : Kind) (x y : Key) → half_open_kinds ks ke ≡ half_open (rangeBy ks x ke y)
+pub half_open_lem : (ks ke : Kind) (x y : Key) → half_open_kinds ks ke ≡ half_open (range_by ks x ke y)
 half_open_lem Excluded ke x y = refl
 half_open_lem Unbounded Unbounded x y = refl
 half_open_lem Unbounded Included x y = refl

@@ -64,10 +64,10 @@ one_of : (P : View → Type 0) (ws : List View) (v : View) (vs : List View) → 
 one_of P [] v vs a = a.0
 one_of P (w ∷ ws) v vs a = one_of P ws v vs a.1
 
-pub record RunSeen (image job ids gap-table : List ℕ) (m first n : ℕ) (p : Plan) (d : List ℕ) (k at from : ℕ) (q : Plan) (t : List ℕ) : Type 0 where
+pub record RunSeen (image job ids gap_table : List ℕ) (m first n : ℕ) (p : Plan) (d : List ℕ) (k at from : ℕ) (q : Plan) (t : List ℕ) : Type 0 where
   pub run : RunReady image first n
   pub small : length job ≤ 262144
-  pub hold : GapsHold job m gap-table
+  pub hold : GapsHold job m gap_table
   pub ordered : GapsOrdered job
   pub seen : List View
   pub walk : Walk view.read image first n k at seen
@@ -77,15 +77,15 @@ pub record RunSeen (image job ids gap-table : List ℕ) (m first n : ℕ) (p : P
   pub ready : PlanReady ids (274877906944 + k * 65) q
 
 pub run_begin :
-    (image job ids gap-table : List ℕ) (m first n : ℕ) (p : Plan) (d : List ℕ)
+    (image job ids gap_table : List ℕ) (m first n : ℕ) (p : Plan) (d : List ℕ)
     → RunReady image first n
     → length job ≤ 262144
-    → GapsHold job m gap-table
+    → GapsHold job m gap_table
     → GapsOrdered job
     → PlanReady ids 274877906944 p
-    → RunSeen image job ids gap-table m first n p d 0 first 0 p d
+    → RunSeen image job ids gap_table m first n p d 0 first 0 p d
 unfolding flat_map run_gaps
-run_begin image job ids gap-table m first n p d r l h o z =
+run_begin image job ids gap_table m first n p d r l h o z =
     record {
       run = r;
       small = l;
@@ -110,7 +110,7 @@ one_met gs ws v =
     = flat_map_append (λ v. gaps_met 0 gs (effective v)) ws (v ∷ []) ∙ ap (λ (l : List ℕ). run_gaps gs ws ++ l) (append-nil (gaps_met 0 gs (effective v))) in
     ap (map gap_bucket) e ∙ map_append gap_bucket (run_gaps gs ws) (gaps_met 0 gs (effective v))
 
-module _ {image job ids gap-table : List ℕ} {m first n : ℕ} {p : Plan} {d : List ℕ} {k at from : ℕ} {q : Plan} {t : List ℕ} (x : RunSeen image job ids gap-table m first n p d k at from q t) where
+module _ {image job ids gap_table : List ℕ} {m first n : ℕ} {p : Plan} {d : List ℕ} {k at from : ℕ} {q : Plan} {t : List ℕ} (x : RunSeen image job ids gap_table m first n p d k at from q t) where
   pub run_all : n ≤ k → PlannedMore image job ids (flat_map (gap_entries (job_gaps job)) (views_at image first n)) (map gap_bucket (run_gaps (job_gaps job) (views_at image first n))) p d q t
   run_all l = rw (walk_all x.walk l) x.planned
 
@@ -164,7 +164,7 @@ module _ {image job ids gap-table : List ℕ} {m first n : ℕ} {p : Plan} {d : 
         pub run_more_same : length u ≡ length d
         run_more_same = w.same ∙ x.planned.same
 
-        pub run_onward : RunSeen image job ids gap-table m first n p d (k + 1) h.past h.gap o u
+        pub run_onward : RunSeen image job ids gap_table m first n p d (k + 1) h.past h.gap o u
         run_onward =
             let v = view_at image at in
             let z = w.ready (274877906944 + k * 65) x.ready in

@@ -72,11 +72,11 @@ all_more f (q ∷ rs) r = rw (all_more f rs r) (go (f q))
 abbrev parts_of : List ℕ → List Entry
 parts_of s = flat_map part_entries (job_of s).parts
 
-pub record RunsSeen (given s ids gap-table index : List ℕ) (h : PlanHead) (o : Plan) (d e : List ℕ) (k : ℕ) (a : ImagePlan) (runs rows : List ℕ) : Type 0 where
+pub record RunsSeen (given s ids gap_table index : List ℕ) (h : PlanHead) (o : Plan) (d e : List ℕ) (k : ℕ) (a : ImagePlan) (runs rows : List ℕ) : Type 0 where
   pub hold : IndexHold given h.runs index
   pub passed : ImagePassed given
   pub head : HeadHeld s h
-  pub gaps : GapsReady s gap-table h
+  pub gaps : GapsReady s gap_table h
   pub out_rows : o.rows ≡ length (parts_of s)
   pub out_bytes : o.bytes ≡ length (entry_bytes (parts_of s))
   pub out_ready : PlanReady ids 65536 o
@@ -93,16 +93,16 @@ pub record RunsSeen (given s ids gap-table index : List ℕ) (h : PlanHead) (o :
   pub same_rows : length rows ≡ length e
 
 pub runs_begin :
-    (given s ids gap-table index : List ℕ) (h : PlanHead) (runs rows : List ℕ)
+    (given s ids gap_table index : List ℕ) (h : PlanHead) (runs rows : List ℕ)
     → IndexHold given h.runs index
     → ImagePassed given
     → HeadHeld s h
-    → GapsReady s gap-table h
+    → GapsReady s gap_table h
     → OutputsPlanned given s ids rows h.outputs
     → 384 ≤ length runs
-    → RunsSeen given s ids gap-table index h h.outputs runs rows 0 (record { plan = h.outputs; outputs = h.outputs.rows; bytes = 1; fits = true }) runs rows
+    → RunsSeen given s ids gap_table index h h.outputs runs rows 0 (record { plan = h.outputs; outputs = h.outputs.rows; bytes = 1; fits = true }) runs rows
 unfolding flat_map runs_length all
-runs_begin given s ids gap-table index h runs rows i p q g o l =
+runs_begin given s ids gap_table index h runs rows i p q g o l =
     record {
       hold = i;
       passed = p;
@@ -124,7 +124,7 @@ runs_begin given s ids gap-table index h runs rows i p q g o l =
       same_rows = refl;
     }
 
-module _ {given s ids gap-table index : List ℕ} {h : PlanHead} {o : Plan} {d e : List ℕ} {k : ℕ} {a : ImagePlan} {runs rows : List ℕ} (x : RunsSeen given s ids gap-table index h o d e k a runs rows) where
+module _ {given s ids gap_table index : List ℕ} {h : PlanHead} {o : Plan} {d e : List ℕ} {k : ℕ} {a : ImagePlan} {runs rows : List ℕ} (x : RunsSeen given s ids gap_table index h o d e k a runs rows) where
   pub runs_plan : PlanReady ids 274877906944 a.plan
   runs_plan = ready_most x.ready (omega (arith, x.ready.few, x.upto, x.hold.most))
 
@@ -261,7 +261,7 @@ module _ {given s ids gap-table index : List ℕ} {h : PlanHead} {o : Plan} {d e
           unfolding row
           runs_more_same = spliced_length runs (k * 6) (run_numbers row) c.put (omega (arith, x.hold.most, x.long)) ∙ x.same_runs
 
-          pub runs_onward : RunsSeen given s ids gap-table index h o d e (k + 1) b u t
+          pub runs_onward : RunsSeen given s ids gap_table index h o d e (k + 1) b u t
           runs_onward =
               let v = draws_more (job_of s) (take k (image_of given)) f.run in
               let w' = buckets_more (job_of s) (take k (image_of given)) f.run in

@@ -40,10 +40,10 @@ the_piece (a_piece w) = w
 nothing_there : {s : List ℕ} {r : Range} {m g : ℕ} → NextFound s r m g None → NoneFrom s r g
 nothing_there (no_piece w) = w
 
-pub record ViewSeen (image job ids gap-table : List ℕ) (m : ℕ) (h : ViewHeld) (p : Plan) (d : List ℕ) (g : ℕ) (q : Plan) (t : List ℕ) : Type 0 where
+pub record ViewSeen (image job ids gap_table : List ℕ) (m : ℕ) (h : ViewHeld) (p : Plan) (d : List ℕ) (g : ℕ) (q : Plan) (t : List ℕ) : Type 0 where
   pub view : ViewReady image h
   pub small : length job ≤ 262144
-  pub hold : GapsHold job m gap-table
+  pub hold : GapsHold job m gap_table
   pub ordered : GapsOrdered job
   pub upto : g ≤ m
   pub done : List Range
@@ -55,15 +55,15 @@ pub record ViewSeen (image job ids gap-table : List ℕ) (m : ℕ) (h : ViewHeld
   pub ready : PlanReady ids (549755813888 + length done) q
 
 pub view_begin :
-    (image job ids gap-table : List ℕ) (m : ℕ) (h : ViewHeld) (p : Plan) (d : List ℕ)
+    (image job ids gap_table : List ℕ) (m : ℕ) (h : ViewHeld) (p : Plan) (d : List ℕ)
     → ViewReady image h
     → length job ≤ 262144
-    → GapsHold job m gap-table
+    → GapsHold job m gap_table
     → GapsOrdered job
     → Reached (effective (view_at image h.at)).start job m h.gap
     → PlanReady ids 549755813888 p
-    → ViewSeen image job ids gap-table m h p d h.gap p d
-view_begin image job ids gap-table m h p d y l k o r z =
+    → ViewSeen image job ids gap_table m h p d h.gap p d
+view_begin image job ids gap_table m h p d y l k o r z =
     record {
       view = y;
       small = l;
@@ -79,7 +79,7 @@ view_begin image job ids gap-table m h p d y l k o r z =
       ready = ready_most z (omega (arith, z.few));
     }
 
-module _ {image job ids gap-table : List ℕ} {m : ℕ} {h : ViewHeld} {p : Plan} {d : List ℕ} {g : ℕ} {q : Plan} {t : List ℕ} (x : ViewSeen image job ids gap-table m h p d g q t) where
+module _ {image job ids gap_table : List ℕ} {m : ℕ} {h : ViewHeld} {p : Plan} {d : List ℕ} {g : ℕ} {q : Plan} {t : List ℕ} (x : ViewSeen image job ids gap_table m h p d g q t) where
   pub view_inside : Inside image h.range
   view_inside = record { start = x.view.held.start; end = x.view.held.end }
 
@@ -133,7 +133,7 @@ module _ {image job ids gap-table : List ℕ} {m : ℕ} {h : ViewHeld} {p : Plan
         pub view_more_same : length u ≡ length d
         view_more_same = one.same ∙ x.planned.same
 
-        pub view_onward : ViewSeen image job ids gap-table m h p d next s u
+        pub view_onward : ViewSeen image job ids gap_table m h p d next s u
         view_onward =
             let z = one.ready (549755813888 + length x.done) x.ready in
             let n : length (x.done ++ (at.piece ∷ [])) ≡ length x.done + 1 = length-append x.done (at.piece ∷ []) in

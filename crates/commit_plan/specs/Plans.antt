@@ -64,9 +64,9 @@ pub record HeadHeld (record' : List ℕ) (h : PlanHead) : Type 0 where
   pub sources : ids_in h.sources (drop h.from record') ≡ (job_of record').sources
   pub sources_within : h.from + 4 * h.sources ≤ length record'
 
-pub record GapsReady (record' gap-table : List ℕ) (h : PlanHead) : Type 0 where
+pub record GapsReady (record' gap_table : List ℕ) (h : PlanHead) : Type 0 where
   pub small : length record' ≤ 262144
-  pub hold : GapsHold record' h.gaps gap-table
+  pub hold : GapsHold record' h.gaps gap_table
   pub ordered : GapsOrdered record'
 
 -- the image passed the checks 5 and 6

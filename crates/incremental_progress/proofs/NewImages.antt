@@ -12,7 +12,7 @@ use Rattle.base.specs.Bytes.{Bytes}
 use Rattle.base.specs.Pick.{and_first, and_second}
 use Rattle.base.specs.Outcome.{answer}
 use Rattle.format.specs.Got as found
-use Rattle.format.specs.Whole.{whole as readWhole}
+use Rattle.format.specs.Whole.{whole as read_whole}
 use Rattle.records.specs.Values.{View, Run, Image, Job}
 use Rattle.records.specs.Layouts.{image, job}
 use Rattle.records.specs.declared.ids.ViewId.{ViewId}
@@ -116,20 +116,20 @@ pub record Stored (l : List ℕ) (i : Image) : Type 0 where
   pub small : length l ≤ 65536
 
 -- what is read from bytes
-pub stored : (l : List ℕ) (i : Image) → Bytes l → readWhole image.read l ≡ answer i → Stored l i
+pub stored : (l : List ℕ) (i : Image) → Bytes l → read_whole image.read l ≡ answer i → Stored l i
 stored l i b e =
     let r = whole_read image.read l i e in
     let o = image_layout.only l i [] b r.all in
     record { bytes = o.bytes ∙ append-nil (image.write i); within = image_parts i o.within; small = r.small }
 
 -- and read again
-pub read_again : (l : List ℕ) (i : Image) → Stored l i → readWhole image.read l ≡ answer i
-unfolding readWhole
+pub read_again : (l : List ℕ) (i : Image) → Stored l i → read_whole image.read l ≡ answer i
+unfolding read_whole
 read_again l i s =
     let e : image.read l ≡ found.got i [] = ap image.read (s.bytes ∙ sym (append-nil (image.write i))) ∙ image_layout.back i [] (image_within i s.within) in
     rw (le-leb (length l) 65536 s.small, e)
 
-pub job_within : (l : List ℕ) (j : Job) → Bytes l → readWhole job.read l ≡ answer j → All PartWithin j.parts
+pub job_within : (l : List ℕ) (j : Job) → Bytes l → read_whole job.read l ≡ answer j → All PartWithin j.parts
 job_within l j b e =
     let r = whole_read job.read l j e in
     job_parts j (job_layout.only l j [] b r.all).within

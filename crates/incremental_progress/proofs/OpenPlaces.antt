@@ -13,7 +13,7 @@ use borrow.Author.Tests.{eq-eqb}
 use Rattle.base.specs.Bytes.{Bytes}
 use Rattle.base.specs.Outcome.{answer}
 use Rattle.base.specs.Pick.{pick}
-use Rattle.format.specs.Whole.{whole as readWhole}
+use Rattle.format.specs.Whole.{whole as read_whole}
 use Rattle.format.proofs.Layouts.{number_length}
 use Rattle.records.specs.Values.{View, Run, Image, Job}
 use Rattle.records.specs.Form.{write_many}
@@ -265,7 +265,7 @@ alike_elsewhere (free {p = p} f) k (suc n) e =
     let h : k + suc n ≡ suc k + n = omega arith in
     alike_elsewhere f (suc k) n (no_other (eqb (suc k + n) k) (has (suc k + n) (open_from (suc k) p)) (rw h at e))
 
-pub differ_in_drawn_bits : {first record' l m : List ℕ} {before : Image} {progress : Job} → Bytes first → Bytes record' → readWhole image.read first ≡ answer before → readWhole job.read record' ≡ answer progress
+pub differ_in_drawn_bits : {first record' l m : List ℕ} {before : Image} {progress : Job} → Bytes first → Bytes record' → read_whole image.read first ≡ answer before → read_whole job.read record' ≡ answer progress
     → AlikeBut (image_pattern (commit_runs progress before)) l m → DifferInDrawnBits (commit_runs progress before) l m
 differ_in_drawn_bits {first} {record'} {l} {m} {before} {progress} b c e f a =
     record {

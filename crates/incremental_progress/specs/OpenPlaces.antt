@@ -5,7 +5,7 @@ use mathlib.Core.List.{List, [], ◌∷◌, ◌++◌, map, flat_map}
 use Rattle.base.specs.Bytes.{Bytes}
 use Rattle.base.specs.Outcome.{answer}
 use Rattle.base.specs.Pick.{pick}
-use Rattle.format.specs.Whole.{whole as readWhole}
+use Rattle.format.specs.Whole.{whole as read_whole}
 use Rattle.records.specs.Values.{View, Image, Job}
 use Rattle.records.specs.Layouts.{view, run, image, job}
 use Rattle.manifest.specs.Checks.{has}
@@ -50,7 +50,7 @@ abbrev pub IdsStandThere : Type 0
 IdsStandThere =
     (l : List ℕ) (i : Image)
     → Bytes l
-    → readWhole image.read l ≡ answer i
+    → read_whole image.read l ≡ answer i
     → map (λ n. take 16 (drop n l)) (id_places i) ≡ map (λ v. v.id.0) (flat_map (λ r. r.views) i)
 
 -- ---- the ids that a commit draws
@@ -81,8 +81,8 @@ OpenPlacesAreDrawn =
     (first record' : List ℕ) (before : Image) (progress : Job)
     → Bytes first
     → Bytes record'
-    → readWhole image.read first ≡ answer before
-    → readWhole job.read record' ≡ answer progress
+    → read_whole image.read first ≡ answer before
+    → read_whole job.read record' ≡ answer progress
     → open_places (image_pattern (commit_runs progress before)) ≡ flat_map last_ten (drawn_places (commit_runs progress before))
 
 -- the ids of an accepted commit's image stand where they do in what it writes
@@ -91,10 +91,10 @@ NewIdsStandThere =
     (first record' ids : List ℕ) (room : ℕ) (new : List ℕ) (before now : Image) (progress : Job)
     → Bytes first
     → Bytes record'
-    → readWhole image.read first ≡ answer before
-    → readWhole job.read record' ≡ answer progress
+    → read_whole image.read first ≡ answer before
+    → read_whole job.read record' ≡ answer progress
     → commit_outcome first record' ids room ≡ answer new
-    → readWhole image.read new ≡ answer now
+    → read_whole image.read new ≡ answer now
     → id_places now ≡ id_places (undrawn (commit_runs progress before))
 
 -- two images as long as each other, and equal but in bytes 6 to 15 of those ids

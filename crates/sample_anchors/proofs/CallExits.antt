@@ -51,8 +51,8 @@ none_held s keys bytes e =
       there = rw z (record { row = λ r h. absurd (omega arith) });
     }
 
-pub most_anchors : (most dataEnd : ℕ) (x : Index) (q : Range) → most ≤ 4096 → length (sample_anchors most dataEnd x q) ≤ 4096
-most_anchors most dataEnd x q h = le_trans (at_most_that_many_anchors most dataEnd x q) (max-le (omega arith) h)
+pub most_anchors : (most data_end : ℕ) (x : Index) (q : Range) → most ≤ 4096 → length (sample_anchors most data_end x q) ≤ 4096
+most_anchors most data_end x q h = le_trans (at_most_that_many_anchors most data_end x q) (max-le (omega arith) h)
 
 module _ {s keys₀ bytes₀ keys bytes : List ℕ} {n : ℕ} {as' : Anchors} (f : HeldThen s keys₀ bytes₀ 0 keys bytes n as') (w : length bytes₀ ≡ length keys₀) where
   all : Held s keys bytes n as'
@@ -86,9 +86,9 @@ module _ {s keys₀ bytes₀ keys bytes : List ℕ} {n : ℕ} {as' : Anchors} (f
 pub ruleset answered_exits = (rows_there, rows_most, rows_sized, rows_reported, rows_lent, most_anchors)
 
 -- ---- sampled
-pub few_anchors : (s : List ℕ) (at : ℕ) → T (is_got (index.read (drop at s))) → (most dataEnd : ℕ) (q : Range) {n : ℕ} → read_number 2 (drop at s) ≡ got n (drop (at + 2) s) → n ≤ 64 → length (sample_anchors most dataEnd (index_there s at) q) ≤ 64
-few_anchors s at t most dataEnd q e h =
-    omega (arith, no_more_than_blocks most dataEnd (index_there s at) q, count s at t e)
+pub few_anchors : (s : List ℕ) (at : ℕ) → T (is_got (index.read (drop at s))) → (most data_end : ℕ) (q : Range) {n : ℕ} → read_number 2 (drop at s) ≡ got n (drop (at + 2) s) → n ≤ 64 → length (sample_anchors most data_end (index_there s at) q) ≤ 64
+few_anchors s at t most data_end q e h =
+    omega (arith, no_more_than_blocks most data_end (index_there s at) q, count s at t e)
 
 -- ---- sample_anchors
 reports : {o : Outcome (List ℕ)} (k : ℕ) → o ≡ stop k → Stop k ≡ reported o
@@ -117,48 +117,48 @@ ascends : (x : Index) (fault : ℕ) → fault ≡ fault_of (index_checks x) → 
 unfolding index_checks fault_of
 ascends x fault e h = by_none _ fault e h
 
-module _ (most dataEnd : ℕ) (l q : List ℕ) (room : ℕ) where
-  asked_too_many : 4096 < most → sample_anchors_outcome most dataEnd l q room ≡ stop 3
+module _ (most data_end : ℕ) (l q : List ℕ) (room : ℕ) where
+  asked_too_many : 4096 < most → sample_anchors_outcome most data_end l q room ≡ stop 3
   unfolding sample_anchors_outcome
   asked_too_many h = rw (lt-leb most 4096 h)
 
-  pub asked_too_many_reported : 4096 < most → Stop 3 ≡ reported (sample_anchors_outcome most dataEnd l q room)
+  pub asked_too_many_reported : 4096 < most → Stop 3 ≡ reported (sample_anchors_outcome most data_end l q room)
   asked_too_many_reported h = reports 3 (asked_too_many h)
 
-  pub asked_too_many_lent : (d : List ℕ) → 4096 < most → d ≡ lent d (sample_anchors_outcome most dataEnd l q room)
+  pub asked_too_many_lent : (d : List ℕ) → 4096 < most → d ≡ lent d (sample_anchors_outcome most data_end l q room)
   asked_too_many_lent d h = leaves d 3 (asked_too_many h)
 
   module _ (m : most ≤ 4096) {w : Judged} (x : JudgedWhole l index_checks (whole index.read l) w) where
-    opened : sample_anchors_outcome most dataEnd l q room ≡ and_then (anchors_sampled most dataEnd l q) (λ a. written_to room (anchors.write a))
+    opened : sample_anchors_outcome most data_end l q room ≡ and_then (anchors_sampled most data_end l q) (λ a. written_to room (anchors.write a))
     unfolding sample_anchors_outcome
     opened = rw (le-leb most 4096 m)
 
-    index_stops : {k : ℕ} → w ≡ JudgedStop k → sample_anchors_outcome most dataEnd l q room ≡ stop k
+    index_stops : {k : ℕ} → w ≡ JudgedStop k → sample_anchors_outcome most data_end l q room ≡ stop k
     unfolding anchors_sampled
     index_stops {k} e =
         let z : whole index.read l ≡ stop k = stopped_is index_checks (whole index.read l) k (sym (ap judged_whole e) ∙ x.meaning) in
         opened ∙ rw z
 
-    pub index_stops_reported : {k : ℕ} → w ≡ JudgedStop k → Stop k ≡ reported (sample_anchors_outcome most dataEnd l q room)
+    pub index_stops_reported : {k : ℕ} → w ≡ JudgedStop k → Stop k ≡ reported (sample_anchors_outcome most data_end l q room)
     index_stops_reported {k} e = reports k (index_stops e)
 
-    pub index_stops_lent : (d : List ℕ) {k : ℕ} → w ≡ JudgedStop k → d ≡ lent d (sample_anchors_outcome most dataEnd l q room)
+    pub index_stops_lent : (d : List ℕ) {k : ℕ} → w ≡ JudgedStop k → d ≡ lent d (sample_anchors_outcome most data_end l q room)
     index_stops_lent d {k} e = leaves d k (index_stops e)
 
     module _ {next fault : ℕ} (e : w ≡ JudgedAt next fault) {r : RangeRead} (y : RangeWhole q r) where
       here : Numbered index_checks (whole index.read l) fault
       here = numbered index_checks (whole index.read l) fault (sym (ap judged_whole e) ∙ x.meaning)
 
-      range_stops : {k : ℕ} → r ≡ RangeStop k → sample_anchors_outcome most dataEnd l q room ≡ stop k
+      range_stops : {k : ℕ} → r ≡ RangeStop k → sample_anchors_outcome most data_end l q room ≡ stop k
       unfolding anchors_sampled
       range_stops {k} f =
           let z : whole read_range q ≡ stop k = sym y.meaning ∙ rw f in
           opened ∙ rw (here.is, z)
 
-      pub range_stops_reported : {k : ℕ} → r ≡ RangeStop k → Stop k ≡ reported (sample_anchors_outcome most dataEnd l q room)
+      pub range_stops_reported : {k : ℕ} → r ≡ RangeStop k → Stop k ≡ reported (sample_anchors_outcome most data_end l q room)
       range_stops_reported {k} f = reports k (range_stops f)
 
-      pub range_stops_lent : (d : List ℕ) {k : ℕ} → r ≡ RangeStop k → d ≡ lent d (sample_anchors_outcome most dataEnd l q room)
+      pub range_stops_lent : (d : List ℕ) {k : ℕ} → r ≡ RangeStop k → d ≡ lent d (sample_anchors_outcome most data_end l q room)
       range_stops_lent d {k} f = leaves d k (range_stops f)
 
       module _ {start end : BoundSpan} {past : ℕ} (f : r ≡ RangeAt start end past) where
@@ -174,42 +174,42 @@ module _ (most dataEnd : ℕ) (l q : List ℕ) (room : ℕ) where
         pub index_got : T (is_got (index.read (drop 0 l)))
         index_got = rw index_read tt
 
-        tested : sample_anchors_outcome most dataEnd l q room ≡ and_then (check 4 (non_empty (range_in q start end)) (check 6 (index_checks here.value).order (answer (sample_anchors most dataEnd here.value (range_in q start end))))) (λ a. written_to room (anchors.write a))
+        tested : sample_anchors_outcome most data_end l q room ≡ and_then (check 4 (non_empty (range_in q start end)) (check 6 (index_checks here.value).order (answer (sample_anchors most data_end here.value (range_in q start end))))) (λ a. written_to room (anchors.write a))
         unfolding anchors_sampled
         tested =
             let z : whole read_range q ≡ answer (range_in q start end) = sym y.meaning ∙ rw f in
             opened
-            ∙ rw (here.is, z) (ap (λ o. and_then o (λ a. written_to room (anchors.write a))) (checks_are here.value (range_in q start end) (answer (sample_anchors most dataEnd here.value (range_in q start end)))))
+            ∙ rw (here.is, z) (ap (λ o. and_then o (λ a. written_to room (anchors.write a))) (checks_are here.value (range_in q start end) (answer (sample_anchors most data_end here.value (range_in q start end)))))
 
         module _ {t : Bool} (u : t ≡ non_empty (range_in q start end)) where
-          range_fails : t ≡ false → sample_anchors_outcome most dataEnd l q room ≡ stop 4
+          range_fails : t ≡ false → sample_anchors_outcome most data_end l q room ≡ stop 4
           range_fails v = let z : non_empty (range_in q start end) ≡ false = sym u ∙ v in tested ∙ rw z
 
-          pub range_fails_reported : t ≡ false → Stop 4 ≡ reported (sample_anchors_outcome most dataEnd l q room)
+          pub range_fails_reported : t ≡ false → Stop 4 ≡ reported (sample_anchors_outcome most data_end l q room)
           range_fails_reported v = reports 4 (range_fails v)
 
-          pub range_fails_lent : (d : List ℕ) → t ≡ false → d ≡ lent d (sample_anchors_outcome most dataEnd l q room)
+          pub range_fails_lent : (d : List ℕ) → t ≡ false → d ≡ lent d (sample_anchors_outcome most data_end l q room)
           range_fails_lent d v = leaves d 4 (range_fails v)
 
-          order_fails : t ≡ true → fault < 8 → sample_anchors_outcome most dataEnd l q room ≡ stop 6
+          order_fails : t ≡ true → fault < 8 → sample_anchors_outcome most data_end l q room ≡ stop 6
           order_fails v h = let z : non_empty (range_in q start end) ≡ true = sym u ∙ v in tested ∙ rw (z, descends here.value fault here.fault_is h)
 
-          pub order_fails_reported : t ≡ true → fault < 8 → Stop 6 ≡ reported (sample_anchors_outcome most dataEnd l q room)
+          pub order_fails_reported : t ≡ true → fault < 8 → Stop 6 ≡ reported (sample_anchors_outcome most data_end l q room)
           order_fails_reported v h = reports 6 (order_fails v h)
 
-          pub order_fails_lent : (d : List ℕ) → t ≡ true → fault < 8 → d ≡ lent d (sample_anchors_outcome most dataEnd l q room)
+          pub order_fails_lent : (d : List ℕ) → t ≡ true → fault < 8 → d ≡ lent d (sample_anchors_outcome most data_end l q room)
           order_fails_lent d v h = leaves d 6 (order_fails v h)
 
-          all_pass : t ≡ true → 8 ≤ fault → sample_anchors_outcome most dataEnd l q room ≡ written_to room (anchors.write (sample_anchors most dataEnd (index_there l 0) (range_in q start end)))
+          all_pass : t ≡ true → 8 ≤ fault → sample_anchors_outcome most data_end l q room ≡ written_to room (anchors.write (sample_anchors most data_end (index_there l 0) (range_in q start end)))
           all_pass v h =
               let z : non_empty (range_in q start end) ≡ true = sym u ∙ v in
               let i : here.value ≡ index_there l 0 = ap values_of (sym index_read) in
-              tested ∙ rw (z, ascends here.value fault here.fault_is h) (ap (λ v. written_to room (anchors.write (sample_anchors most dataEnd v (range_in q start end)))) i)
+              tested ∙ rw (z, ascends here.value fault here.fault_is h) (ap (λ v. written_to room (anchors.write (sample_anchors most data_end v (range_in q start end)))) i)
 
-          pub answer_reported : {a : Written} → t ≡ true → 8 ≤ fault → a ≡ reported (written_to room (anchors.write (sample_anchors most dataEnd (index_there l 0) (range_in q start end)))) → a ≡ reported (sample_anchors_outcome most dataEnd l q room)
+          pub answer_reported : {a : Written} → t ≡ true → 8 ≤ fault → a ≡ reported (written_to room (anchors.write (sample_anchors most data_end (index_there l 0) (range_in q start end)))) → a ≡ reported (sample_anchors_outcome most data_end l q room)
           answer_reported v h z = z ∙ sym (ap reported (all_pass v h))
 
-          pub answer_lent : (d : List ℕ) {g : List ℕ} → t ≡ true → 8 ≤ fault → g ≡ lent d (written_to room (anchors.write (sample_anchors most dataEnd (index_there l 0) (range_in q start end)))) → g ≡ lent d (sample_anchors_outcome most dataEnd l q room)
+          pub answer_lent : (d : List ℕ) {g : List ℕ} → t ≡ true → 8 ≤ fault → g ≡ lent d (written_to room (anchors.write (sample_anchors most data_end (index_there l 0) (range_in q start end)))) → g ≡ lent d (sample_anchors_outcome most data_end l q room)
           answer_lent d v h z = z ∙ sym (ap (lent d) (all_pass v h))
 
 pub ruleset call_exits = (asked_too_many_reported, asked_too_many_lent, index_stops_reported, index_stops_lent, range_stops_reported, range_stops_lent, start_inside, end_inside, index_got, range_fails_reported, range_fails_lent, order_fails_reported, order_fails_lent, answer_reported, answer_lent)

@@ -107,9 +107,9 @@ some : (left : ℕ) → (left ≡ 0 → ⊥) → 0 < left
 some zero h = absurd (h refl)
 some (suc n) h = omega arith
 
-pub data_end : (s : List ℕ) (at left dataEnd : ℕ) → left ≡ 0 → dataEnd ≡ beginning dataEnd (values_of (read_many block.read left (drop at s)))
+pub data_end : (s : List ℕ) (at left data_end : ℕ) → left ≡ 0 → data_end ≡ beginning data_end (values_of (read_many block.read left (drop at s)))
 unfolding read_many
-data_end s at left dataEnd e = rw e
+data_end s at left data_end e = rw e
 
 module _ (s : List ℕ) (at left : ℕ) (h : left ≡ 0 → ⊥) (t : T (is_got (read_many block.read left (drop at s)))) where
   here : FirstOf block.read left (drop at s)
@@ -118,8 +118,8 @@ module _ (s : List ℕ) (at left : ℕ) (h : left ≡ 0 → ⊥) (t : T (is_got 
   pub offset_there : at + 8 ≤ length s
   offset_there = block_room s at (rw here.one tt)
 
-  pub next_offset : (dataEnd : ℕ) {o : ℕ} → read_number 8 (drop at s) ≡ got o (drop (at + 8) s) → o ≡ beginning dataEnd (values_of (read_many block.read left (drop at s)))
-  next_offset dataEnd {o} e =
+  pub next_offset : (data_end : ℕ) {o : ℕ} → read_number 8 (drop at s) ≡ got o (drop (at + 8) s) → o ≡ beginning data_end (values_of (read_many block.read left (drop at s)))
+  next_offset data_end {o} e =
       rw here.all (sym (offset_of (drop at s) here.value here.next (drop (at + 8) s) o here.one e))
 
 pub ruleset beginning_exits = (data_end, offset_there, next_offset)
@@ -218,13 +218,13 @@ module _ (s : List ℕ) (at left step : ℕ) {n : ℕ} (t : T (is_got (read_many
 
       pub group_is :
           at ≤ length s
-          → {dataEnd o v : ℕ}
-          → o ≡ beginning dataEnd (values_of (read_many block.read (left - n) (drop m s)))
+          → {data_end o v : ℕ}
+          → o ≡ beginning data_end (values_of (read_many block.read (left - n) (drop m s)))
           → v ≡ o - b.offset
-          → GroupThere s at left step dataEnd (record { key = b.key; bytes = v; past = m; left = left - n })
+          → GroupThere s at left step data_end (record { key = b.key; bytes = v; past = m; left = left - n })
       unfolding key_there
-      group_is h {dataEnd} {o} {v} w z =
-          let starts : o ≡ beginning dataEnd (drop step (b' ∷ (parts.front ++ parts.back))) = w ∙ ap (λ g. beginning dataEnd (values_of g)) after_is ∙ ap (beginning dataEnd) (sym left_over) in
+      group_is h {data_end} {o} {v} w z =
+          let starts : o ≡ beginning data_end (drop step (b' ∷ (parts.front ++ parts.back))) = w ∙ ap (λ g. beginning data_end (values_of g)) after_is ∙ ap (beginning data_end) (sym left_over) in
           record {
             first = b';
             others = parts.front ++ parts.back;

@@ -67,13 +67,13 @@ module _ {t w : Bool} (e : w ≡ t) (g : GroupSpan) (k : Kept) (keys bytes : Lis
       record { kept = rw z; keys_are = rw z; bytes_are = rw z }
 
 -- ---- sample
-pub record Sampled (s keys₀ bytes₀ : List ℕ) (q : Range) (most dataEnd step : ℕ) (x : Index) (k₀ : Kept) (keys bytes : List ℕ) (k : Kept) (at left : ℕ) : Type 0 where
+pub record Sampled (s keys₀ bytes₀ : List ℕ) (q : Range) (most data_end step : ℕ) (x : Index) (k₀ : Kept) (keys bytes : List ℕ) (k : Kept) (at left : ℕ) : Type 0 where
   pub seen : Anchors
   pub todo : Index
   pub rest : List ℕ
   pub reading : read_many block.read left (drop at s) ≡ got todo rest
   pub place : at ≤ length s
-  pub same : sample_anchors most dataEnd x q ≡ seen ++ held_by q (groups dataEnd step 0 todo)
+  pub same : sample_anchors most data_end x q ≡ seen ++ held_by q (groups data_end step 0 todo)
   pub held : (as' : Anchors) → Held s keys₀ bytes₀ k₀.rows as' → Held s keys bytes k.rows (as' ++ seen)
   pub sum : k.total ≡ least (k₀.total + total seen) (2 ^ 63)
   pub few : k.rows ≤ at
@@ -130,14 +130,14 @@ module _ (s : List ℕ) (at : ℕ) (t : T (is_got (index.read (drop at s)))) whe
     stride_fits h = omega (arith, count, index_is_long (drop at s) (index_there s at) values.rest values.is, length-drop at s)
 
     pub sampled_begin :
-        (keys bytes : List ℕ) (q : Range) (most dataEnd : ℕ) (k : Kept) {step : ℕ}
+        (keys bytes : List ℕ) (q : Range) (most data_end : ℕ) (k : Kept) {step : ℕ}
         → step ≡ stride most n
         → length bytes ≡ length keys
         → k.rows ≤ at
         → k.total ≤ 2 ^ 63
-        → Sampled s keys bytes q most dataEnd step (index_there s at) k keys bytes k (at + 2) n
+        → Sampled s keys bytes q most data_end step (index_there s at) k keys bytes k (at + 2) n
     unfolding sample_anchors total
-    sampled_begin keys bytes q most dataEnd k {step} f w r l =
+    sampled_begin keys bytes q most data_end k {step} f w r l =
         let z : stride most (length (index_there s at)) ≡ step = ap (stride most) count ∙ sym f in
         record {
           seen = [];
@@ -145,7 +145,7 @@ module _ (s : List ℕ) (at : ℕ) (t : T (is_got (index.read (drop at s)))) whe
           rest = values.rest;
           reading = reads;
           place = index_room;
-          same = ap (λ m. held_by q (groups dataEnd m 0 (index_there s at))) z;
+          same = ap (λ m. held_by q (groups data_end m 0 (index_there s at))) z;
           held = λ as' h. rw append-nil h;
           sum = at_most k.total l;
           few = omega arith;
@@ -164,7 +164,7 @@ held_step q a as' false e = rw e
 abbrev mark : List ℕ → GroupSpan → Anchor
 mark s g = record { key = key_there s g.key; bytes = g.bytes }
 
-module _ {s keys₀ bytes₀ : List ℕ} {q : Range} {most dataEnd step : ℕ} {x : Index} {k₀ : Kept} {keys bytes : List ℕ} {k : Kept} {at left : ℕ} (p : Sampled s keys₀ bytes₀ q most dataEnd step x k₀ keys bytes k at left) where
+module _ {s keys₀ bytes₀ : List ℕ} {q : Range} {most data_end step : ℕ} {x : Index} {k₀ : Kept} {keys bytes : List ℕ} {k : Kept} {at left : ℕ} (p : Sampled s keys₀ bytes₀ q most data_end step x k₀ keys bytes k at left) where
   pub sampled_place : at ≤ length s
   sampled_place = p.place
 
@@ -180,7 +180,7 @@ module _ {s keys₀ bytes₀ : List ℕ} {q : Range} {most dataEnd step : ℕ} {
   pub sampled_most : k.total ≤ 2 ^ 63
   sampled_most = rw p.sum (least_most (2 ^ 63) (k₀.total + total p.seen))
 
-  module _ {g : GroupSpan} (y : GroupThere s at left step dataEnd g) where
+  module _ {g : GroupSpan} (y : GroupThere s at left step data_end g) where
     pub row_fits : length s < 2 ^ 64 → k.rows + 1 < 2 ^ 64
     row_fits h = omega (arith, p.few, y.further, y.inside)
 
@@ -196,23 +196,23 @@ module _ {s keys₀ bytes₀ : List ℕ} {q : Range} {most dataEnd step : ℕ} {
     abbrev after : Index
     after = drop step (y.first ∷ y.others)
 
-    mark_is : record { key = y.first.first; bytes = beginning dataEnd after - y.first.offset } ≡ mark s g
+    mark_is : record { key = y.first.first; bytes = beginning data_end after - y.first.offset } ≡ mark s g
     mark_is =
-        ap (λ (f : Key). record { key = f; bytes = beginning dataEnd after - y.first.offset }) (sym y.key)
+        ap (λ (f : Key). record { key = f; bytes = beginning data_end after - y.first.offset }) (sym y.key)
         ∙ ap (λ (b : ℕ). record { key = key_there s g.key; bytes = b }) (sym y.bytes)
 
-    group_first : groups dataEnd step 0 p.todo ≡ mark s g ∷ groups dataEnd step 0 after
+    group_first : groups data_end step 0 p.todo ≡ mark s g ∷ groups data_end step 0 after
     group_first =
-        ap (groups dataEnd step 0) todo_is
-        ∙ groups_step dataEnd step y.first y.others (p.some (omega (arith, y.fewer)))
-        ∙ ap (λ (a : Anchor). a ∷ groups dataEnd step 0 after) mark_is
+        ap (groups data_end step 0) todo_is
+        ∙ groups_step data_end step y.first y.others (p.some (omega (arith, y.fewer)))
+        ∙ ap (λ (a : Anchor). a ∷ groups data_end step 0 after) mark_is
 
-    same_after : (t : Bool) → holds q (key_there s g.key) ≡ t → sample_anchors most dataEnd x q ≡ (p.seen ++ pick t (mark s g ∷ []) []) ++ held_by q (groups dataEnd step 0 after)
+    same_after : (t : Bool) → holds q (key_there s g.key) ≡ t → sample_anchors most data_end x q ≡ (p.seen ++ pick t (mark s g ∷ []) []) ++ held_by q (groups data_end step 0 after)
     same_after t e =
         p.same
         ∙ ap (λ l. p.seen ++ held_by q l) group_first
-        ∙ ap (λ l. p.seen ++ l) (held_step q (mark s g) (groups dataEnd step 0 after) t e)
-        ∙ sym (append_assoc p.seen (pick t (mark s g ∷ []) []) (held_by q (groups dataEnd step 0 after)))
+        ∙ ap (λ l. p.seen ++ l) (held_step q (mark s g) (groups data_end step 0 after) t e)
+        ∙ sym (append_assoc p.seen (pick t (mark s g ∷ []) []) (held_by q (groups data_end step 0 after)))
 
     module _ {k' : Kept} {keys' bytes' : List ℕ} where
       held_put : RowIf true g k keys bytes k' keys' bytes' → (as' : Anchors) → Held s keys₀ bytes₀ k₀.rows as' → Held s keys' bytes' k'.rows (as' ++ (p.seen ++ (mark s g ∷ [])))
@@ -227,7 +227,7 @@ module _ {s keys₀ bytes₀ : List ℕ} {q : Range} {most dataEnd step : ℕ} {
           ∙ least_added (2 ^ 63) (k₀.total + total p.seen) g.bytes
           ∙ ap (λ t. least t (2 ^ 63)) (add_assoc k₀.total (total p.seen) g.bytes ∙ ap (λ t. k₀.total + t) (sym (total_more p.seen (mark s g))))
 
-      put : holds q (key_there s g.key) ≡ true → RowIf true g k keys bytes k' keys' bytes' → Sampled s keys₀ bytes₀ q most dataEnd step x k₀ keys' bytes' k' g.past g.left
+      put : holds q (key_there s g.key) ≡ true → RowIf true g k keys bytes k' keys' bytes' → Sampled s keys₀ bytes₀ q most data_end step x k₀ keys' bytes' k' g.past g.left
       put e z =
           let a : length keys' ≡ length keys = ap length z.keys_are ∙ length-set keys k.rows g.key in
           let b : length bytes' ≡ length bytes = ap length z.bytes_are ∙ length-set bytes k.rows g.bytes in
@@ -247,7 +247,7 @@ module _ {s keys₀ bytes₀ : List ℕ} {q : Range} {most dataEnd step : ℕ} {
             bytes_long = b ∙ p.bytes_long;
           }
 
-      not_put : holds q (key_there s g.key) ≡ false → RowIf false g k keys bytes k' keys' bytes' → Sampled s keys₀ bytes₀ q most dataEnd step x k₀ keys' bytes' k' g.past g.left
+      not_put : holds q (key_there s g.key) ≡ false → RowIf false g k keys bytes k' keys' bytes' → Sampled s keys₀ bytes₀ q most data_end step x k₀ keys' bytes' k' g.past g.left
       not_put e z =
           rw (z.kept, z.keys_are, z.bytes_are)
           (record {
@@ -256,7 +256,7 @@ module _ {s keys₀ bytes₀ : List ℕ} {q : Range} {most dataEnd step : ℕ} {
             rest = y.rest;
             reading = y.after;
             place = y.inside;
-            same = same_after false e ∙ ap (λ l. l ++ held_by q (groups dataEnd step 0 after)) (append-nil p.seen);
+            same = same_after false e ∙ ap (λ l. l ++ held_by q (groups data_end step 0 after)) (append-nil p.seen);
             held = p.held;
             sum = p.sum;
             few = omega (arith, p.few, y.further);
@@ -266,26 +266,26 @@ module _ {s keys₀ bytes₀ : List ℕ} {q : Range} {most dataEnd step : ℕ} {
             bytes_long = p.bytes_long;
           })
 
-      pub sampled_onward : RowIf (holds q (key_there s g.key)) g k keys bytes k' keys' bytes' → Sampled s keys₀ bytes₀ q most dataEnd step x k₀ keys' bytes' k' g.past g.left
+      pub sampled_onward : RowIf (holds q (key_there s g.key)) g k keys bytes k' keys' bytes' → Sampled s keys₀ bytes₀ q most data_end step x k₀ keys' bytes' k' g.past g.left
       sampled_onward z = go (holds q (key_there s g.key)) refl z
         where
-          go : (t : Bool) → holds q (key_there s g.key) ≡ t → RowIf t g k keys bytes k' keys' bytes' → Sampled s keys₀ bytes₀ q most dataEnd step x k₀ keys' bytes' k' g.past g.left
+          go : (t : Bool) → holds q (key_there s g.key) ≡ t → RowIf t g k keys bytes k' keys' bytes' → Sampled s keys₀ bytes₀ q most data_end step x k₀ keys' bytes' k' g.past g.left
           go true e z = put e z
           go false e z = not_put e z
 
   -- after the last
-  none_left : left ≤ 0 → sample_anchors most dataEnd x q ≡ p.seen
+  none_left : left ≤ 0 → sample_anchors most data_end x q ≡ p.seen
   unfolding read_many held_by
   none_left h =
       let z : left ≡ 0 = omega arith in
       let w : read_many block.read 0 (drop at s) ≡ got p.todo p.rest = ap (λ n. read_many block.read n (drop at s)) (sym z) ∙ p.reading in
       let n : p.todo ≡ [] = cc w in
-      p.same ∙ ap (λ l. p.seen ++ held_by q l) (ap (groups dataEnd step 0) n ∙ groups_none dataEnd step) ∙ append-nil p.seen
+      p.same ∙ ap (λ l. p.seen ++ held_by q l) (ap (groups data_end step 0) n ∙ groups_none data_end step) ∙ append-nil p.seen
 
-  pub sampled_held : left ≤ 0 → (as' : Anchors) → Held s keys₀ bytes₀ k₀.rows as' → Held s keys bytes k.rows (as' ++ sample_anchors most dataEnd x q)
+  pub sampled_held : left ≤ 0 → (as' : Anchors) → Held s keys₀ bytes₀ k₀.rows as' → Held s keys bytes k.rows (as' ++ sample_anchors most data_end x q)
   sampled_held h as' w = rw (none_left h) (p.held as' w)
 
-  pub sampled_total : left ≤ 0 → k.total ≡ least (k₀.total + total (sample_anchors most dataEnd x q)) (2 ^ 63)
+  pub sampled_total : left ≤ 0 → k.total ≡ least (k₀.total + total (sample_anchors most data_end x q)) (2 ^ 63)
   sampled_total h = rw (none_left h) p.sum
 
   pub sampled_keys : length keys ≡ length keys₀

@@ -20,26 +20,26 @@ use Rattle.records.proofs.BlockExits.{index_is}
 use Rattle.subcompaction.specs.Anchors.{beginning, groups}
 
 -- ---- group by group
-groups_past : (dataEnd n rest : ℕ) (x : Index) → groups dataEnd n rest x ≡ groups dataEnd n 0 (drop rest x)
+groups_past : (data_end n rest : ℕ) (x : Index) → groups data_end n rest x ≡ groups data_end n 0 (drop rest x)
 unfolding groups
-groups_past dataEnd n zero x = refl
-groups_past dataEnd n (suc rest) [] = refl
-groups_past dataEnd n (suc rest) (b ∷ bs) = groups_past dataEnd n rest bs
+groups_past data_end n zero x = refl
+groups_past data_end n (suc rest) [] = refl
+groups_past data_end n (suc rest) (b ∷ bs) = groups_past data_end n rest bs
 
 pub groups_step :
-    (dataEnd n : ℕ) (b : Block) (bs : Index)
+    (data_end n : ℕ) (b : Block) (bs : Index)
     → 0 < n
-    → groups dataEnd n 0 (b ∷ bs)
-    ≡ record { key = b.first; bytes = beginning dataEnd (drop n (b ∷ bs)) - b.offset } ∷ groups dataEnd n 0 (drop n (b ∷ bs))
+    → groups data_end n 0 (b ∷ bs)
+    ≡ record { key = b.first; bytes = beginning data_end (drop n (b ∷ bs)) - b.offset } ∷ groups data_end n 0 (drop n (b ∷ bs))
 unfolding groups
-groups_step dataEnd zero b bs h = absurd (omega arith)
-groups_step dataEnd (suc n) b bs h =
+groups_step data_end zero b bs h = absurd (omega arith)
+groups_step data_end (suc n) b bs h =
     let z : suc n - 1 ≡ n = omega arith in
-    rw (z, groups_past dataEnd (suc n) n bs)
+    rw (z, groups_past data_end (suc n) n bs)
 
-pub groups_none : (dataEnd n : ℕ) → groups dataEnd n 0 [] ≡ []
+pub groups_none : (data_end n : ℕ) → groups data_end n 0 [] ≡ []
 unfolding groups
-groups_none dataEnd n = refl
+groups_none data_end n = refl
 
 -- ---- each block has ten bytes and its key's
 number_takes : (n : ℕ) (l : List ℕ) (v : ℕ) (r : List ℕ) → read_number n l ≡ got v r → length r + n ≡ length l

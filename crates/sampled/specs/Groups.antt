@@ -19,14 +19,14 @@ use Rattle.sampled.specs.declared.Kept.{Kept}
 use Rattle.sampled.specs.declared.Sampling.{Sampling}
 
 -- the group of n blocks at the front of those that are left at a place; after it, the others are
-pub record GroupThere (s : List ℕ) (at left n dataEnd : ℕ) (r : GroupSpan) : Type 0 where
+pub record GroupThere (s : List ℕ) (at left n data_end : ℕ) (r : GroupSpan) : Type 0 where
   pub first : Block
   pub others : Index
   pub rest : List ℕ
   pub values : values_of (read_many block.read left (drop at s)) ≡ first ∷ others
   pub there : T (is_got (read_key (drop r.key s)))
   pub key : key_there s r.key ≡ first.first
-  pub bytes : r.bytes ≡ beginning dataEnd (drop n (first ∷ others)) - first.offset
+  pub bytes : r.bytes ≡ beginning data_end (drop n (first ∷ others)) - first.offset
   pub after : read_many block.read r.left (drop r.past s) ≡ got (drop n (first ∷ others)) rest
   pub fewer : r.left < left
   pub further : at + 10 ≤ r.past

@@ -139,44 +139,44 @@ module _ (s : List ℕ) (r : RunSpan) (place : ℕ) (i : RunInside s r) where
 pub ruleset in_run_exits = (in_run_from, not_in_run, before_there, view_there, in_run)
 
 -- ---- view_in_image
-pub view_by_run : (i : Image) (run-place place : ℕ) → view_at i run-place place ≡ outcome.and_then (views_at i run-place) (λ vs. placed (index_at vs place))
+pub view_by_run : (i : Image) (run_place place : ℕ) → view_at i run_place place ≡ outcome.and_then (views_at i run_place) (λ vs. placed (index_at vs place))
 unfolding view_at
-view_by_run i run-place place = go (index_at i run-place)
+view_by_run i run_place place = go (index_at i run_place)
   where
     go : (o : Option Run) → outcome.and_then (placed o) (λ r. placed (index_at r.views place)) ≡ outcome.and_then (outcome.and_then (placed o) (λ r. answer r.views)) (λ vs. placed (index_at vs place))
     go none = refl
     go (some r) = refl
 
-module _ (s : List ℕ) (run-place place : ℕ) {w : RunPlaced} (x : RunCalled s (views_at (values_of (image.read s)) run-place) w) where
-  by_run : {o : Outcome (List View)} → views_at (values_of (image.read s)) run-place ≡ o → view_at (values_of (image.read s)) run-place place ≡ outcome.and_then o (λ vs. placed (index_at vs place))
-  by_run e = view_by_run (values_of (image.read s)) run-place place ∙ ap (λ o. outcome.and_then o (λ vs. placed (index_at vs place))) e
+module _ (s : List ℕ) (run_place place : ℕ) {w : RunPlaced} (x : RunCalled s (views_at (values_of (image.read s)) run_place) w) where
+  by_run : {o : Outcome (List View)} → views_at (values_of (image.read s)) run_place ≡ o → view_at (values_of (image.read s)) run_place place ≡ outcome.and_then o (λ vs. placed (index_at vs place))
+  by_run e = view_by_run (values_of (image.read s)) run_place place ∙ ap (λ o. outcome.and_then o (λ vs. placed (index_at vs place))) e
 
-  pub no_run : {k : ℕ} → w ≡ RunStop k → ViewPlaced s (view_at (values_of (image.read s)) run-place place) (ViewStop k)
+  pub no_run : {k : ℕ} → w ≡ RunStop k → ViewPlaced s (view_at (values_of (image.read s)) run_place place) (ViewStop k)
   no_run q = record { meaning = sym (by_run (run_not_called x q)); inside = tt }
 
-  pub view_placed : {r : RunSpan} {v : ViewRead} → w ≡ RunAt r → ViewPlaced s (placed (index_at (views_of s r) place)) v → ViewPlaced s (view_at (values_of (image.read s)) run-place place) v
+  pub view_placed : {r : RunSpan} {v : ViewRead} → w ≡ RunAt r → ViewPlaced s (placed (index_at (views_of s r) place)) v → ViewPlaced s (view_at (values_of (image.read s)) run_place place) v
   view_placed q y = same_placed (by_run (run_called x q)) y
 
 pub ruleset view_exits = (run_called_inside, no_run, view_placed)
 
 -- ---- view_given
-module _ (s : List ℕ) (run-place place : ℕ) {w : Judged} (x : JudgedWhole s image_checks (whole image.read s) w) where
-  pub no_image : {k : ℕ} → w ≡ JudgedStop k → ViewPlaced s (view_given s run-place place) (ViewStop k)
+module _ (s : List ℕ) (run_place place : ℕ) {w : Judged} (x : JudgedWhole s image_checks (whole image.read s) w) where
+  pub no_image : {k : ℕ} → w ≡ JudgedStop k → ViewPlaced s (view_given s run_place place) (ViewStop k)
   unfolding view_given
   no_image q = record { meaning = rw (not_read x q); inside = tt }
 
   module _ {next fault : ℕ} (q : w ≡ JudgedAt next fault) where
-    pub bad_image : fault < 8 → ViewPlaced s (view_given s run-place place) (ViewStop fault)
+    pub bad_image : fault < 8 → ViewPlaced s (view_given s run_place place) (ViewStop fault)
     unfolding view_given
     bad_image h = record { meaning = rw (refused x q h); inside = tt }
 
     pub is_there_lem : 8 ≤ fault → T (is_got (image.read s))
     is_there_lem h = image_there x q h
 
-    pub from_image : {v : ViewRead} → 8 ≤ fault → ViewPlaced s (view_at (values_of (image.read s)) run-place place) v → ViewPlaced s (view_given s run-place place) v
+    pub from_image : {v : ViewRead} → 8 ≤ fault → ViewPlaced s (view_at (values_of (image.read s)) run_place place) v → ViewPlaced s (view_given s run_place place) v
     unfolding view_given
     from_image h y =
         let a = accepted x q h in
-        same_placed (ap (λ o. outcome.and_then o (λ i. view_at i run-place place)) a.given ∙ sym (ap (λ g. view_at (values_of g) run-place place) a.read)) y
+        same_placed (ap (λ o. outcome.and_then o (λ i. view_at i run_place place)) a.given ∙ sym (ap (λ g. view_at (values_of g) run_place place) a.read)) y
 
 pub ruleset given_exits = (no_image, bad_image, is_there_lem, from_image)

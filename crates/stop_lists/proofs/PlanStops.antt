@@ -21,18 +21,18 @@ use Rattle.stop_lists.proofs.Stopping.{checks, and-then, written, ReadsKeys, For
 use Rattle.stop_lists.proofs.GivenStops.{whole_range, three_listed, seven_listed, checked_stops, whole_image}
 
 -- ---- anchors
-anchors_sampled_lem : (most dataEnd : ℕ) (l q : List ℕ) → StopsIn sample_anchors_stops (anchors_sampled most dataEnd l q)
+anchors_sampled_lem : (most data_end : ℕ) (l q : List ℕ) → StopsIn sample_anchors_stops (anchors_sampled most data_end l q)
 unfolding anchors_sampled index_checks asked_checks has
-anchors_sampled_lem most dataEnd l q =
+anchors_sampled_lem most data_end l q =
     and-then (whole index.read l) (whole_stops three_listed.keys index (index_stops three_listed.keys) l) (λ x.
     and-then (whole read_range q) (whole_range three_listed q) (λ r.
     checks 4 (non_empty r) refl (λ _. checks 6 (joined (index_checks x) (asked_checks r)).order refl (λ _. answers _))))
 
-pub sample_anchors_stops_lem : (most dataEnd : ℕ) (l q : List ℕ) (room : ℕ) → StopsIn sample_anchors_stops (sample_anchors_outcome most dataEnd l q room)
+pub sample_anchors_stops_lem : (most data_end : ℕ) (l q : List ℕ) (room : ℕ) → StopsIn sample_anchors_stops (sample_anchors_outcome most data_end l q room)
 unfolding sample_anchors_outcome has
-sample_anchors_stops_lem most dataEnd l q room =
+sample_anchors_stops_lem most data_end l q room =
     checks 3 (leb most 4096) refl (λ _.
-    and-then (anchors_sampled most dataEnd l q) (anchors_sampled_lem most dataEnd l q) (λ a. written room (anchors.write a) refl))
+    and-then (anchors_sampled most data_end l q) (anchors_sampled_lem most data_end l q) (λ a. written room (anchors.write a) refl))
 
 -- ---- boundaries
 keys_listed : ReadsKeys select_boundaries_stops

@@ -150,8 +150,8 @@ pub record OfEachCall (Says : (A : Type 0) → List ℕ → Outcome A → Type 0
   pub estimate_visible_size_lem : (image : List ℕ) (run view : ℕ) → Says _ visible_size_stops (estimate_visible_size_outcome image run view)
   pub estimate_run_visible_size_lem : (image : List ℕ) (run : ℕ) → Says _ visible_size_stops (estimate_run_visible_size_outcome image run)
   pub sample_anchors_lem :
-      (most dataEnd : ℕ) (index range : List ℕ) (room : ℕ)
-      → Says _ sample_anchors_stops (sample_anchors_outcome most dataEnd index range room)
+      (most data_end : ℕ) (index range : List ℕ) (room : ℕ)
+      → Says _ sample_anchors_stops (sample_anchors_outcome most data_end index range room)
   pub select_boundaries_lem :
       (parts least : ℕ) (anchors : List ℕ) (room : ℕ)
       → Says _ select_boundaries_stops (select_boundaries_outcome parts least anchors room)

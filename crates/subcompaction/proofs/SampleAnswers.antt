@@ -76,19 +76,19 @@ cut_same [] h = refl
 cut_same (a ∷ as') h = rw (mod-eq_of_lt h.0, cut_same as' h.1)
 
 -- ---- sizes that are not cut off
-begins_small : (dataEnd n : ℕ) (x : Index) → dataEnd < 256 ^ 8 → All (λ b. b.offset < 256 ^ 8) x → beginning dataEnd (drop n x) < 256 ^ 8
-begins_small dataEnd zero [] d h = d
-begins_small dataEnd zero (b ∷ bs) d h = h.0
-begins_small dataEnd (suc n) [] d h = d
-begins_small dataEnd (suc n) (b ∷ bs) d h = begins_small dataEnd n bs d h.1
+begins_small : (data_end n : ℕ) (x : Index) → data_end < 256 ^ 8 → All (λ b. b.offset < 256 ^ 8) x → beginning data_end (drop n x) < 256 ^ 8
+begins_small data_end zero [] d h = d
+begins_small data_end zero (b ∷ bs) d h = h.0
+begins_small data_end (suc n) [] d h = d
+begins_small data_end (suc n) (b ∷ bs) d h = begins_small data_end n bs d h.1
 
-groups_small : (dataEnd n rest : ℕ) (x : Index) → dataEnd < 256 ^ 8 → All (λ b. b.offset < 256 ^ 8) x → All (λ a. a.bytes < 256 ^ 8) (groups dataEnd n rest x)
+groups_small : (data_end n rest : ℕ) (x : Index) → data_end < 256 ^ 8 → All (λ b. b.offset < 256 ^ 8) x → All (λ a. a.bytes < 256 ^ 8) (groups data_end n rest x)
 unfolding groups
-groups_small dataEnd n rest [] d h = tt
-groups_small dataEnd n (suc rest) (b ∷ bs) d h = groups_small dataEnd n rest bs d h.1
-groups_small dataEnd n zero (b ∷ bs) d h =
-    let m = begins_small dataEnd (n - 1) bs d h.1 in
-    (omega arith, groups_small dataEnd n (n - 1) bs d h.1)
+groups_small data_end n rest [] d h = tt
+groups_small data_end n (suc rest) (b ∷ bs) d h = groups_small data_end n rest bs d h.1
+groups_small data_end n zero (b ∷ bs) d h =
+    let m = begins_small data_end (n - 1) bs d h.1 in
+    (omega arith, groups_small data_end n (n - 1) bs d h.1)
 
 offsets_small : (l : List ℕ) (x : Index) → Bytes l → whole index.read l ≡ answer x → All (λ b. b.offset < 256 ^ 8) x
 unfolding index block
@@ -96,24 +96,24 @@ offsets_small l x b e =
     let w = (index_layout.only l x [] b (whole_read index.read l x e).all).within in
     All-map (λ c h. h.first) x (all_of_many w.second)
 
-sampled_small : (most dataEnd : ℕ) (x : Index) (r : Range) → dataEnd < 2 ^ 64 → All (λ b. b.offset < 256 ^ 8) x → All (λ a. a.bytes < 256 ^ 8) (sample_anchors most dataEnd x r)
+sampled_small : (most data_end : ℕ) (x : Index) (r : Range) → data_end < 2 ^ 64 → All (λ b. b.offset < 256 ^ 8) x → All (λ a. a.bytes < 256 ^ 8) (sample_anchors most data_end x r)
 unfolding sample_anchors
-sampled_small most dataEnd x r d h =
-    held_of (λ a. a.bytes < 256 ^ 8) r (groups dataEnd (stride most (length x)) 0 x) (groups_small dataEnd (stride most (length x)) 0 x d h)
+sampled_small most data_end x r d h =
+    held_of (λ a. a.bytes < 256 ^ 8) r (groups data_end (stride most (length x)) 0 x) (groups_small data_end (stride most (length x)) 0 x d h)
 
 -- ---- the answer
 -- what was read, and the checks passed
-record Sampled (most dataEnd : ℕ) (l q : List ℕ) (a : Anchors) : Type 0 where
+record Sampled (most data_end : ℕ) (l q : List ℕ) (a : Anchors) : Type 0 where
   blocks : Index
   range : Range
   blocks_are : whole index.read l ≡ answer blocks
   range_is : whole read_range q ≡ answer range
   order : (index_checks blocks).order ≡ true
-  is : a ≡ sample_anchors most dataEnd blocks range
+  is : a ≡ sample_anchors most data_end blocks range
 
-sampled_from : (most dataEnd : ℕ) (l q : List ℕ) (a : Anchors) → anchors_sampled most dataEnd l q ≡ answer a → Sampled most dataEnd l q a
+sampled_from : (most data_end : ℕ) (l q : List ℕ) (a : Anchors) → anchors_sampled most data_end l q ≡ answer a → Sampled most data_end l q a
 unfolding anchors_sampled
-sampled_from most dataEnd l q a e =
+sampled_from most data_end l q a e =
     let x = answered (whole index.read l) _ a e in
     let r = answered (whole read_range q) _ a x.second in
     let c = passed_order (joined (index_checks x.value) (asked_checks r.value)) _ a r.second in
@@ -126,32 +126,32 @@ sampled_from most dataEnd l q a e =
       is = cc c.1;
     }
 
-module _ (most dataEnd : ℕ) (l q : List ℕ) (few : most ≤ 4096) (a : Anchors) (e : anchors_sampled most dataEnd l q ≡ answer a) (s : Sampled most dataEnd l q a) where
+module _ (most data_end : ℕ) (l q : List ℕ) (few : most ≤ 4096) (a : Anchors) (e : anchors_sampled most data_end l q ≡ answer a) (s : Sampled most data_end l q a) where
   sampled_few : length (map cut a) ≤ max 1 most
-  sampled_few = rw (length-map a cut, s.is) (at_most_that_many_anchors most dataEnd s.blocks s.range)
+  sampled_few = rw (length-map a cut, s.is) (at_most_that_many_anchors most data_end s.blocks s.range)
 
   sampled_within : anchors.Within (map cut a)
   sampled_within =
       let keys = index_read l s.blocks [] (whole_read index.read l s.blocks s.blocks_are).all in
-      let within : All (λ x. KeyWithin x.key) a = rw s.is (sampled_of KeyWithin most dataEnd s.blocks s.range keys) in
+      let within : All (λ x. KeyWithin x.key) a = rw s.is (sampled_of KeyWithin most data_end s.blocks s.range keys) in
       anchors_within (map cut a) (omega (arith, sampled_few)) (All-mapped anchor.Within cut a (All-map cut_within a within))
 
   sampled_ascend : Pairwise (λ x y. key_at_most x.key y.key ≡ true) (map cut a)
   sampled_ascend =
       Pairwise-mapped (λ x y. key_at_most x.key y.key ≡ true) cut a
-      (rw s.is (sampled_keys_ascend most dataEnd s.blocks s.range s.order))
+      (rw s.is (sampled_keys_ascend most data_end s.blocks s.range s.order))
 
   sampled_held : (r : Range) → whole read_range q ≡ answer r → All (λ x. holds r x.key ≡ true) (map cut a)
   sampled_held r h =
       All-mapped (λ x. holds r x.key ≡ true) cut a
-      (rw (s.is, same_answer h s.range_is) (sampled_keys_are_held most dataEnd s.blocks s.range))
+      (rw (s.is, same_answer h s.range_is) (sampled_keys_are_held most data_end s.blocks s.range))
 
-  not_cut : dataEnd < 2 ^ 64 → Bytes l → anchors_sampled most dataEnd l q ≡ answer (map cut a)
+  not_cut : data_end < 2 ^ 64 → Bytes l → anchors_sampled most data_end l q ≡ answer (map cut a)
   not_cut d b =
-      let small : All (λ x. x.bytes < 256 ^ 8) a = rw s.is (sampled_small most dataEnd s.blocks s.range d (offsets_small l s.blocks b s.blocks_are)) in
+      let small : All (λ x. x.bytes < 256 ^ 8) a = rw s.is (sampled_small most data_end s.blocks s.range d (offsets_small l s.blocks b s.blocks_are)) in
       rw (cut_same a small) e
 
-  sample_answered : (b : List ℕ) → b ≡ anchors.write a → AnchorsAnswered most dataEnd l q b
+  sample_answered : (b : List ℕ) → b ≡ anchors.write a → AnchorsAnswered most data_end l q b
   sample_answered b w =
       let c = w ∙ sym (cut_all_written a) in
       record {
@@ -166,9 +166,9 @@ module _ (most dataEnd : ℕ) (l q : List ℕ) (few : most ≤ 4096) (a : Anchor
 
 pub each_sample_answered : EachSampleAnswered
 unfolding sample_anchors_outcome
-each_sample_answered most dataEnd l q room b e =
+each_sample_answered most data_end l q room b e =
     let t = tested 3 (leb most 4096) _ b e in
-    let w = answered (anchors_sampled most dataEnd l q) _ b t.1 in
-    let s = sampled_from most dataEnd l q w.value w.first in
-    sample_answered most dataEnd l q (leb-true most 4096 t.0) w.value w.first s b
+    let w = answered (anchors_sampled most data_end l q) _ b t.1 in
+    let s = sampled_from most data_end l q w.value w.first in
+    sample_answered most data_end l q (leb-true most 4096 t.0) w.value w.first s b
     (wrote_all room (anchors.write w.value) b w.second)

@@ -28,74 +28,74 @@ held_fewer r (x ∷ a) =
     elim (decided (holds r x.key)) [ inl h ↦ rw h (omega arith) | inr h ↦ rw h (omega arith) ]
 
 -- groups of n blocks, after the rest of one, take n blocks each but the last
-groups_taken : (dataEnd n rest : ℕ) (x : Index) → rest < n → length (groups dataEnd n rest x) * n + rest < length x + n
+groups_taken : (data_end n rest : ℕ) (x : Index) → rest < n → length (groups data_end n rest x) * n + rest < length x + n
 unfolding groups
-groups_taken dataEnd n rest [] h = omega arith
-groups_taken dataEnd n (suc rest) (b ∷ bs) h =
-    let m = groups_taken dataEnd n rest bs (omega arith) in
+groups_taken data_end n rest [] h = omega arith
+groups_taken data_end n (suc rest) (b ∷ bs) h =
+    let m = groups_taken data_end n rest bs (omega arith) in
     omega arith
-groups_taken dataEnd n zero (b ∷ bs) h =
-    let m = groups_taken dataEnd n (n - 1) bs (omega arith) in
+groups_taken data_end n zero (b ∷ bs) h =
+    let m = groups_taken data_end n (n - 1) bs (omega arith) in
     rw suc-mul (omega arith)
 
 -- a group of 0 blocks is a group of one
-pub groups_fewer : (dataEnd n rest : ℕ) (x : Index) → length (groups dataEnd n rest x) ≤ length x
+pub groups_fewer : (data_end n rest : ℕ) (x : Index) → length (groups data_end n rest x) ≤ length x
 unfolding groups
-groups_fewer dataEnd n rest [] = omega arith
-groups_fewer dataEnd n (suc rest) (b ∷ bs) = let m = groups_fewer dataEnd n rest bs in omega arith
-groups_fewer dataEnd n zero (b ∷ bs) = let m = groups_fewer dataEnd n (n - 1) bs in omega arith
+groups_fewer data_end n rest [] = omega arith
+groups_fewer data_end n (suc rest) (b ∷ bs) = let m = groups_fewer data_end n rest bs in omega arith
+groups_fewer data_end n zero (b ∷ bs) = let m = groups_fewer data_end n (n - 1) bs in omega arith
 
 -- so many groups of that many blocks have them all
 pub stride_reaches : (most blocks : ℕ) → blocks ≤ stride most blocks * max 1 most
 unfolding stride
 stride_reaches most blocks = let h = lt-div-mul-add {a = blocks + (max 1 most - 1)} {b = max 1 most} (omega arith) in omega arith
 
-few : (dataEnd n m : ℕ) (x : Index) → length x ≤ n * m → length (groups dataEnd n 0 x) ≤ m
-few dataEnd zero m x h = let a = groups_fewer dataEnd zero 0 x in omega (arith, zero-mul m)
-few dataEnd (suc n) m x h =
-    let c = length (groups dataEnd (suc n) 0 x) in
-    let t = groups_taken dataEnd (suc n) 0 x (omega arith) in
+few : (data_end n m : ℕ) (x : Index) → length x ≤ n * m → length (groups data_end n 0 x) ≤ m
+few data_end zero m x h = let a = groups_fewer data_end zero 0 x in omega (arith, zero-mul m)
+few data_end (suc n) m x h =
+    let c = length (groups data_end (suc n) 0 x) in
+    let t = groups_taken data_end (suc n) 0 x (omega arith) in
     let p = mul_comm (suc n) c in
     let q = mul-suc (suc n) m in
     let l : c < suc m = lt_of_mul-lt-mul_left (suc n) (rw (p, q) (omega arith)) in
     omega arith
 
-pub few_groups : (most dataEnd : ℕ) (x : Index) → length (groups dataEnd (stride most (length x)) 0 x) ≤ max 1 most
-few_groups most dataEnd x = few dataEnd (stride most (length x)) (max 1 most) x (stride_reaches most (length x))
+pub few_groups : (most data_end : ℕ) (x : Index) → length (groups data_end (stride most (length x)) 0 x) ≤ max 1 most
+few_groups most data_end x = few data_end (stride most (length x)) (max 1 most) x (stride_reaches most (length x))
 
 pub at_most_that_many_anchors : AtMostThatManyAnchors
 unfolding sample_anchors
-at_most_that_many_anchors most dataEnd x r =
-    let g = groups dataEnd (stride most (length x)) 0 x in
+at_most_that_many_anchors most data_end x r =
+    let g = groups data_end (stride most (length x)) 0 x in
     let a = held_fewer r g in
-    let b = few_groups most dataEnd x in
+    let b = few_groups most data_end x in
     omega arith
 
-pub no_more_than_blocks : (most dataEnd : ℕ) (x : Index) (r : Range) → length (sample_anchors most dataEnd x r) ≤ length x
+pub no_more_than_blocks : (most data_end : ℕ) (x : Index) (r : Range) → length (sample_anchors most data_end x r) ≤ length x
 unfolding sample_anchors
-no_more_than_blocks most dataEnd x r =
+no_more_than_blocks most data_end x r =
     let n = stride most (length x) in
-    let a = held_fewer r (groups dataEnd n 0 x) in
-    let b = groups_fewer dataEnd n 0 x in
+    let a = held_fewer r (groups data_end n 0 x) in
+    let b = groups_fewer data_end n 0 x in
     omega arith
 
 -- ---- their keys
 -- a key is the first of a block
-groups_of : (P : Key → Type 0) (dataEnd n rest : ℕ) (x : Index) → All (λ b. P b.first) x → All (λ a. P a.key) (groups dataEnd n rest x)
+groups_of : (P : Key → Type 0) (data_end n rest : ℕ) (x : Index) → All (λ b. P b.first) x → All (λ a. P a.key) (groups data_end n rest x)
 unfolding groups
-groups_of P dataEnd n rest [] h = tt
-groups_of P dataEnd n (suc rest) (b ∷ bs) h = groups_of P dataEnd n rest bs h.1
-groups_of P dataEnd n zero (b ∷ bs) h = (h.0, groups_of P dataEnd n (n - 1) bs h.1)
+groups_of P data_end n rest [] h = tt
+groups_of P data_end n (suc rest) (b ∷ bs) h = groups_of P data_end n rest bs h.1
+groups_of P data_end n zero (b ∷ bs) h = (h.0, groups_of P data_end n (n - 1) bs h.1)
 
 groups_ascend :
-    (dataEnd n rest : ℕ) (x : Index)
+    (data_end n rest : ℕ) (x : Index)
     → Pairwise (λ b c. key_at_most b.first c.first ≡ true) x
-    → Pairwise (λ a b. key_at_most a.key b.key ≡ true) (groups dataEnd n rest x)
+    → Pairwise (λ a b. key_at_most a.key b.key ≡ true) (groups data_end n rest x)
 unfolding groups
-groups_ascend dataEnd n rest [] h = tt
-groups_ascend dataEnd n (suc rest) (b ∷ bs) h = groups_ascend dataEnd n rest bs h.1
-groups_ascend dataEnd n zero (b ∷ bs) h =
-    (groups_of (λ k. key_at_most b.first k ≡ true) dataEnd n (n - 1) bs h.0, groups_ascend dataEnd n (n - 1) bs h.1)
+groups_ascend data_end n rest [] h = tt
+groups_ascend data_end n (suc rest) (b ∷ bs) h = groups_ascend data_end n rest bs h.1
+groups_ascend data_end n zero (b ∷ bs) h =
+    (groups_of (λ k. key_at_most b.first k ≡ true) data_end n (n - 1) bs h.0, groups_ascend data_end n (n - 1) bs h.1)
 
 pub held_of : (P : Anchor → Type 0) (r : Range) (a : Anchors) → All P a → All P (held_by r a)
 unfolding held_by
@@ -118,14 +118,14 @@ held_keys r [] = tt
 held_keys r (x ∷ a) = elim (decided (holds r x.key)) [ inl k ↦ rw k (k, held_keys r a) | inr k ↦ rw k (held_keys r a) ]
 
 -- what each first key is, each sampled key is
-pub sampled_of : (P : Key → Type 0) (most dataEnd : ℕ) (x : Index) (r : Range) → All (λ b. P b.first) x → All (λ a. P a.key) (sample_anchors most dataEnd x r)
+pub sampled_of : (P : Key → Type 0) (most data_end : ℕ) (x : Index) (r : Range) → All (λ b. P b.first) x → All (λ a. P a.key) (sample_anchors most data_end x r)
 unfolding sample_anchors
-sampled_of P most dataEnd x r h =
-    held_of (λ a. P a.key) r (groups dataEnd (stride most (length x)) 0 x) (groups_of P dataEnd (stride most (length x)) 0 x h)
+sampled_of P most data_end x r h =
+    held_of (λ a. P a.key) r (groups data_end (stride most (length x)) 0 x) (groups_of P data_end (stride most (length x)) 0 x h)
 
 pub sampled_keys_are_held : SampledKeysAreHeld
 unfolding sample_anchors
-sampled_keys_are_held most dataEnd x r = held_keys r (groups dataEnd (stride most (length x)) 0 x)
+sampled_keys_are_held most data_end x r = held_keys r (groups data_end (stride most (length x)) 0 x)
 
 -- ---- their order
 -- check 6, of neighbours, holds of any two
@@ -149,45 +149,45 @@ index_ascends (b ∷ x) h = firsts_ascend b x h
 
 pub sampled_keys_ascend : SampledKeysAscend
 unfolding sample_anchors
-sampled_keys_ascend most dataEnd x r h =
+sampled_keys_ascend most data_end x r h =
     let n = stride most (length x) in
-    held_pairs (λ a b. key_at_most a.key b.key ≡ true) r (groups dataEnd n 0 x) (groups_ascend dataEnd n 0 x (index_ascends x h))
+    held_pairs (λ a b. key_at_most a.key b.key ≡ true) r (groups data_end n 0 x) (groups_ascend data_end n 0 x (index_ascends x h))
 
 -- ---- their bytes
-rising_tail : (dataEnd : ℕ) (b : Block) (bs : Index) → Rising dataEnd (b ∷ bs) → Rising dataEnd bs
+rising_tail : (data_end : ℕ) (b : Block) (bs : Index) → Rising data_end (b ∷ bs) → Rising data_end bs
 unfolding Rising
-rising_tail dataEnd b [] h = tt
-rising_tail dataEnd b (c ∷ bs) h = h.1
+rising_tail data_end b [] h = tt
+rising_tail data_end b (c ∷ bs) h = h.1
 
-next_begins : (dataEnd : ℕ) (b : Block) (bs : Index) → Rising dataEnd (b ∷ bs) → b.offset ≤ beginning dataEnd bs
+next_begins : (data_end : ℕ) (b : Block) (bs : Index) → Rising data_end (b ∷ bs) → b.offset ≤ beginning data_end bs
 unfolding Rising
-next_begins dataEnd b [] h = h
-next_begins dataEnd b (c ∷ bs) h = h.0
+next_begins data_end b [] h = h
+next_begins data_end b (c ∷ bs) h = h.0
 
 -- what comes after some blocks begins no sooner than they do, and by the data's end
-later_begins : (dataEnd n : ℕ) (x : Index) → Rising dataEnd x → (beginning dataEnd x ≤ beginning dataEnd (drop n x)) × (beginning dataEnd (drop n x) ≤ dataEnd)
-later_begins dataEnd zero [] h = (omega arith, omega arith)
-later_begins dataEnd zero (b ∷ bs) h =
-    let t = later_begins dataEnd zero bs (rising_tail dataEnd b bs h) in
-    let n = next_begins dataEnd b bs h in
+later_begins : (data_end n : ℕ) (x : Index) → Rising data_end x → (beginning data_end x ≤ beginning data_end (drop n x)) × (beginning data_end (drop n x) ≤ data_end)
+later_begins data_end zero [] h = (omega arith, omega arith)
+later_begins data_end zero (b ∷ bs) h =
+    let t = later_begins data_end zero bs (rising_tail data_end b bs h) in
+    let n = next_begins data_end b bs h in
     (omega arith, omega (arith, t.0, t.1))
-later_begins dataEnd (suc n) [] h = (omega arith, omega arith)
-later_begins dataEnd (suc n) (b ∷ bs) h =
-    let t = later_begins dataEnd n bs (rising_tail dataEnd b bs h) in
-    let m = next_begins dataEnd b bs h in
+later_begins data_end (suc n) [] h = (omega arith, omega arith)
+later_begins data_end (suc n) (b ∷ bs) h =
+    let t = later_begins data_end n bs (rising_tail data_end b bs h) in
+    let m = next_begins data_end b bs h in
     (omega (arith, t.0), t.1)
 
 -- of groups after the rest of one, the bytes from where they begin
-groups_add_up : (dataEnd n rest : ℕ) (x : Index) → Rising dataEnd x → total (groups dataEnd n rest x) ≡ dataEnd - beginning dataEnd (drop rest x)
+groups_add_up : (data_end n rest : ℕ) (x : Index) → Rising data_end x → total (groups data_end n rest x) ≡ data_end - beginning data_end (drop rest x)
 unfolding groups total
-groups_add_up dataEnd n zero [] h = omega arith
-groups_add_up dataEnd n (suc rest) [] h = omega arith
-groups_add_up dataEnd n (suc rest) (b ∷ bs) h = groups_add_up dataEnd n rest bs (rising_tail dataEnd b bs h)
-groups_add_up dataEnd n zero (b ∷ bs) h =
-    let t = rising_tail dataEnd b bs h in
-    let s = groups_add_up dataEnd n (n - 1) bs t in
-    let l = later_begins dataEnd (n - 1) bs t in
-    let m = next_begins dataEnd b bs h in
+groups_add_up data_end n zero [] h = omega arith
+groups_add_up data_end n (suc rest) [] h = omega arith
+groups_add_up data_end n (suc rest) (b ∷ bs) h = groups_add_up data_end n rest bs (rising_tail data_end b bs h)
+groups_add_up data_end n zero (b ∷ bs) h =
+    let t = rising_tail data_end b bs h in
+    let s = groups_add_up data_end n (n - 1) bs t in
+    let l = later_begins data_end (n - 1) bs t in
+    let m = next_begins data_end b bs h in
     omega (arith, l.0, l.1)
 
 all_held : (a : Anchors) → held_by every_key_range a ≡ a
@@ -197,6 +197,6 @@ all_held (x ∷ a) = ap (λ l. x ∷ l) (all_held a)
 
 pub sampled_bytes_add_up : SampledBytesAddUp
 unfolding sample_anchors
-sampled_bytes_add_up most dataEnd b bs h =
+sampled_bytes_add_up most data_end b bs h =
     let n = stride most (length (b ∷ bs)) in
-    ap total (all_held (groups dataEnd n 0 (b ∷ bs))) ∙ groups_add_up dataEnd n 0 (b ∷ bs) h
+    ap total (all_held (groups data_end n 0 (b ∷ bs))) ∙ groups_add_up data_end n 0 (b ∷ bs) h

@@ -10,16 +10,16 @@ stride most blocks = (blocks + (max 1 most - 1)) / max 1 most
 
 -- where what comes after some blocks begins: with the next block, or where the data end
 abbrev pub beginning : ℕ → Index → ℕ
-beginning dataEnd [] = dataEnd
-beginning dataEnd (b ∷ bs) = b.offset
+beginning data_end [] = data_end
+beginning data_end (b ∷ bs) = b.offset
 
 -- Groups of n blocks, after the rest of the group before. A group has the bytes from its first block's offset to where what
 -- comes after it begins; none if offsets fall.
 unfoldable pub groups : ℕ → ℕ → ℕ → Index → Anchors
-groups dataEnd n rest [] = []
-groups dataEnd n (suc rest) (b ∷ bs) = groups dataEnd n rest bs
-groups dataEnd n zero (b ∷ bs) =
-    record { key = b.first; bytes = beginning dataEnd (drop (n - 1) bs) - b.offset } ∷ groups dataEnd n (n - 1) bs
+groups data_end n rest [] = []
+groups data_end n (suc rest) (b ∷ bs) = groups data_end n rest bs
+groups data_end n zero (b ∷ bs) =
+    record { key = b.first; bytes = beginning data_end (drop (n - 1) bs) - b.offset } ∷ groups data_end n (n - 1) bs
 
 -- those whose key a range holds
 unfoldable pub held_by : Range → Anchors → Anchors
@@ -27,4 +27,4 @@ held_by r [] = []
 held_by r (a ∷ as') = pick (holds r a.key) (a ∷ held_by r as') (held_by r as')
 
 unfoldable pub sample_anchors : ℕ → ℕ → Index → Range → Anchors
-sample_anchors most dataEnd x r = held_by r (groups dataEnd (stride most (length x)) 0 x)
+sample_anchors most data_end x r = held_by r (groups data_end (stride most (length x)) 0 x)

@@ -16,12 +16,12 @@ use Rattle.subcompaction.specs.Boundaries.{select_boundaries}
 
 -- ---- sample_anchors
 unfoldable pub anchors_sampled : ℕ → ℕ → List ℕ → List ℕ → Outcome Anchors
-anchors_sampled most dataEnd l q =
-    and_then (whole index.read l) (λ x. and_then (whole read_range q) (λ r. checked (joined (index_checks x) (asked_checks r)) (answer (sample_anchors most dataEnd x r))))
+anchors_sampled most data_end l q =
+    and_then (whole index.read l) (λ x. and_then (whole read_range q) (λ r. checked (joined (index_checks x) (asked_checks r)) (answer (sample_anchors most data_end x r))))
 
 unfoldable pub sample_anchors_outcome : ℕ → ℕ → List ℕ → List ℕ → ℕ → Outcome (List ℕ)
-sample_anchors_outcome most dataEnd l q room =
-    check 3 (leb most 4096) (and_then (anchors_sampled most dataEnd l q) (λ a. written_to room (anchors.write a)))
+sample_anchors_outcome most data_end l q room =
+    check 3 (leb most 4096) (and_then (anchors_sampled most data_end l q) (λ a. written_to room (anchors.write a)))
 
 -- ---- select_boundaries
 unfoldable pub anchors_given : List ℕ → Outcome Anchors

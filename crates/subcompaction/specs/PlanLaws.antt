@@ -168,31 +168,31 @@ every_key_range = record { start = unbounded; end = unbounded }
 
 -- offsets that do not fall, up to the end of the data
 unfoldable pub Rising : ℕ → Index → Type 0
-Rising dataEnd [] = Unit
-Rising dataEnd (b ∷ []) = b.offset ≤ dataEnd
-Rising dataEnd (b ∷ c ∷ bs) = (b.offset ≤ c.offset) × Rising dataEnd (c ∷ bs)
+Rising data_end [] = Unit
+Rising data_end (b ∷ []) = b.offset ≤ data_end
+Rising data_end (b ∷ c ∷ bs) = (b.offset ≤ c.offset) × Rising data_end (c ∷ bs)
 
 abbrev pub AtMostThatManyAnchors : Type 0
-AtMostThatManyAnchors = (most dataEnd : ℕ) (x : Index) (r : Range) → length (sample_anchors most dataEnd x r) ≤ max 1 most
+AtMostThatManyAnchors = (most data_end : ℕ) (x : Index) (r : Range) → length (sample_anchors most data_end x r) ≤ max 1 most
 
 abbrev pub SampledKeysAreHeld : Type 0
-SampledKeysAreHeld = (most dataEnd : ℕ) (x : Index) (r : Range) → All (λ a. holds r a.key ≡ true) (sample_anchors most dataEnd x r)
+SampledKeysAreHeld = (most data_end : ℕ) (x : Index) (r : Range) → All (λ a. holds r a.key ≡ true) (sample_anchors most data_end x r)
 
 -- of first keys that do not descend (check 6)
 abbrev pub SampledKeysAscend : Type 0
 SampledKeysAscend =
-    (most dataEnd : ℕ) (x : Index) (r : Range)
+    (most data_end : ℕ) (x : Index) (r : Range)
     → (index_checks x).order ≡ true
-    → Pairwise (λ a b. key_at_most a.key b.key ≡ true) (sample_anchors most dataEnd x r)
+    → Pairwise (λ a b. key_at_most a.key b.key ≡ true) (sample_anchors most data_end x r)
 
 abbrev pub SampledBytesAddUp : Type 0
 SampledBytesAddUp =
-    (most dataEnd : ℕ) (b : Block) (bs : Index)
-    → Rising dataEnd (b ∷ bs)
-    → total (sample_anchors most dataEnd (b ∷ bs) every_key_range) ≡ dataEnd - b.offset
+    (most data_end : ℕ) (b : Block) (bs : Index)
+    → Rising data_end (b ∷ bs)
+    → total (sample_anchors most data_end (b ∷ bs) every_key_range) ≡ data_end - b.offset
 
 -- what `sample_anchors` answers on any bytes: the layout of such anchors, read back as they are
-pub record AnchorsAnswered (most dataEnd : ℕ) (l q b : List ℕ) : Type 0 where
+pub record AnchorsAnswered (most data_end : ℕ) (l q b : List ℕ) : Type 0 where
   pub sampled : Anchors
   pub is : b ≡ anchors.write sampled
   pub reads_back : ended (anchors.read b) ≡ answer sampled
@@ -200,10 +200,10 @@ pub record AnchorsAnswered (most dataEnd : ℕ) (l q b : List ℕ) : Type 0 wher
   pub ascending : Pairwise (λ x y. key_at_most x.key y.key ≡ true) sampled
   pub held : (r : Range) → whole read_range q ≡ answer r → All (λ a. holds r a.key ≡ true) sampled
   -- of a data end of 64 bits and of bytes they are those of the definition: no size is cut off
-  pub as_sampled : dataEnd < 2 ^ 64 → Bytes l → anchors_sampled most dataEnd l q ≡ answer sampled
+  pub as_sampled : data_end < 2 ^ 64 → Bytes l → anchors_sampled most data_end l q ≡ answer sampled
 
 abbrev pub EachSampleAnswered : Type 0
 EachSampleAnswered =
-    (most dataEnd : ℕ) (l q : List ℕ) (room : ℕ) (b : List ℕ)
-    → sample_anchors_outcome most dataEnd l q room ≡ answer b
-    → AnchorsAnswered most dataEnd l q b
+    (most data_end : ℕ) (l q : List ℕ) (room : ℕ) (b : List ℕ)
+    → sample_anchors_outcome most data_end l q room ≡ answer b
+    → AnchorsAnswered most data_end l q b
