@@ -8,7 +8,7 @@ use format::BoundSpan;
 use manifest::Judged;
 use records::ViewRead;
 
-#[derive(Drop)]
+#[derive(Clone, Copy)]
 pub enum Checked {
     Accepted,
     Stop(u8),
@@ -30,7 +30,7 @@ pub fn check_image(image: &[u8]) -> Checked
 }
 
 // The bounds of a range, each with the place of its key in the image.
-#[derive(Drop)]
+#[derive(Clone, Copy)]
 pub enum ViewRange {
     At { start: BoundSpan, end: BoundSpan },
     Stop(u8),

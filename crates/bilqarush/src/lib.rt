@@ -1,6 +1,8 @@
 // The public calls. None has a `requires`: each takes any bytes, refuses by the numbers of document 01, and says what it
 // answers for each input as an equation with its definition in specs/. Ranges are range images; keys and prefixes are
 // lent as they are.
+#![tactic(auto)]
+
 mod commits;
 mod images;
 mod lookups;
@@ -38,14 +40,14 @@ pub use sizes::{
 };
 
 // A comparison's answer: -1, 0 or 1, or the number of a stop.
-#[derive(Drop)]
+#[derive(Clone, Copy)]
 pub enum Compared {
     Order(i8),
     Stop(u8),
 }
 
 // A point: the place of its key in the lent slice and its length.
-#[derive(Drop)]
+#[derive(Clone, Copy)]
 pub enum Point {
     At(usize, usize),
     Nothing,
@@ -142,7 +144,7 @@ pub fn as_point(range: &[u8]) -> Point
 }
 
 // Two ranges, each in its slice.
-#[derive(Drop)]
+#[derive(Clone, Copy)]
 pub enum Both {
     Ranges(RangeSpan, RangeSpan),
     Stop(u8),
@@ -221,7 +223,7 @@ fn stop_number(joined: Joined) -> u8
 
 // The number of the stop, or 0, and a key as a part of the slice that supplied it. The part is empty after a stop, where
 // there is no intersection, and for an unbounded bound.
-#[derive(Drop)]
+#[derive(Clone, Copy)]
 pub struct KeyPart<'a> {
     pub stop: u8,
     pub key: &'a [u8],

@@ -1,5 +1,7 @@
 // The public calls for C: include/bilqarush.h has their declarations, and the crates `told` and `told_bytes` how a call tells its
 // answer.
+#![tactic(auto)]
+
 mod images;
 mod lookups;
 mod partitions;

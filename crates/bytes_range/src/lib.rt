@@ -1,4 +1,6 @@
 // Ranges from prefixes, and ranges that are one point, as bytes_range.rs has them.
+#![tactic(auto)]
+
 pub mod span;
 
 ghost use Rattle.std.specs.Prelude.{◌≡◌, ◌≤◌, ◌<◌, ◌+◌, ◌-◌, length, get_or, take, drop};

@@ -1,4 +1,6 @@
 // A commit: read once, planned once, written once.
+#![tactic(auto)]
+
 mod jobs;
 mod rows;
 mod stages;

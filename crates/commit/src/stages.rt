@@ -66,7 +66,7 @@ fn covered<'a>(
 }
 
 // The job's destination and its sources, which stand from a place on; how many parts it has, and how many runs the image.
-#[derive(Drop)]
+#[derive(Clone, Copy)]
 pub struct StageHead {
     pub destination: u64,
     pub sources: usize,

@@ -10,7 +10,7 @@ use crate::covered::views_covered;
 use crate::outputs::keep_outputs;
 
 // The destination of the job, and how many parts, gaps and runs stand in the tables.
-#[derive(Drop)]
+#[derive(Clone, Copy)]
 pub struct CoverHead {
     pub destination: u64,
     pub parts: usize,

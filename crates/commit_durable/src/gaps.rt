@@ -15,7 +15,7 @@ use format::BoundSpan;
 use format::span::RangeSpan;
 
 // Where the next gap starts, if it is not void.
-#[derive(Drop)]
+#[derive(Clone, Copy)]
 pub struct GapStart {
     pub there: bool,
     pub bound: BoundSpan,

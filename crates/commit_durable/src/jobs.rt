@@ -8,7 +8,7 @@ use records::JobRead;
 
 // The destination, how many sources there are and the place of the first one's id, how many parts; the first of the checks
 // 4 to 7 that fails or 8, and the first of 10 and 11 that fails or 12.
-#[derive(Drop)]
+#[derive(Clone, Copy)]
 pub struct JobHead {
     pub destination: u64,
     pub sources: usize,
@@ -18,7 +18,7 @@ pub struct JobHead {
     pub late: u8,
 }
 
-#[derive(Drop)]
+#[derive(Clone, Copy)]
 pub enum JobJudged {
     Stop(u8),
     At(JobHead),

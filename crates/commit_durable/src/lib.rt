@@ -1,4 +1,6 @@
 // What of a job is durable: its parts with their intervals, and the gaps between these.
+#![tactic(auto)]
+
 mod durable;
 mod gaps;
 mod jobs;

@@ -51,7 +51,7 @@ fn output_between(job: &[u8], start: BoundSpan, end: BoundSpan, t: TableSpan) ->
 
 // Of the outputs read so far: the place past them, the first of the checks 5 and 7 that they fail or 8, whether they pass
 // check 11, and where the last key of the last one stands, if there is one.
-#[derive(Drop)]
+#[derive(Clone, Copy)]
 pub struct Outputs {
     pub past: usize,
     pub fault: u8,
@@ -79,7 +79,7 @@ fn output_more(job: &[u8], o: Outputs, before: BoundSpan, end: BoundSpan, t: Tab
     }
 }
 
-#[derive(Drop)]
+#[derive(Clone, Copy)]
 pub enum OutputsRead {
     Stop(u8),
     At(Outputs),

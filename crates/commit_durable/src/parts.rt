@@ -68,7 +68,7 @@ fn planned_after(job: &[u8], first: bool, before: BoundSpan, r: RangeSpan) -> bo
 
 // Of the parts read so far: the place past them, the first of the checks 4, 5 and 7 that they fail or 8, whether they pass
 // check 10 and check 11, and where the planned range of the last ends.
-#[derive(Drop)]
+#[derive(Clone, Copy)]
 pub struct PartsSeen {
     pub past: usize,
     pub fault: u8,
@@ -96,7 +96,7 @@ fn part_more(job: &[u8], first: bool, p: PartsSeen, planned: RangeSpan, o: Outpu
     }
 }
 
-#[derive(Drop)]
+#[derive(Clone, Copy)]
 pub enum PartsJudged {
     Stop(u8),
     At(PartsSeen),

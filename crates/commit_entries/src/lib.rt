@@ -1,5 +1,7 @@
 // What a commit is to write, entry by entry: each gets a row, as long as there is room, and is counted; one that needs a new
 // id draws it. Counting goes on when the rows are full, and when the supply is used up.
+#![tactic(auto)]
+
 ghost use Rattle.std.specs.Prelude.{◌≡◌, ◌≤◌, ◌+◌, ◌*◌, length};
 ghost use Rattle.commit_rows.specs.Bytes.{bound_length, range_length, row_length};
 ghost use Rattle.commit_entries.specs.Planned.{RowSmall, KeptRow, PlanReady, TenFound, Added, AddedCut};
@@ -12,7 +14,7 @@ use records::ViewId;
 
 // How many rows there are to write, how many bytes they take, how many of them have a new id, the place in the supply after
 // the last draw, and whether the supply sufficed so far.
-#[derive(Drop)]
+#[derive(Clone, Copy)]
 pub struct Plan {
     pub rows: usize,
     pub bytes: usize,
@@ -87,7 +89,7 @@ pub fn add_row(rows: &mut [usize], p: Plan, r: Row) -> Plan
 }
 
 // The plan after one draw more, and where the ten bytes stand, if the supply sufficed.
-#[derive(Drop)]
+#[derive(Clone, Copy)]
 pub struct Ten {
     pub at: usize,
     pub plan: Plan,

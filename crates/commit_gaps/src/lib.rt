@@ -1,4 +1,6 @@
 // What of a range of the image lies in the gaps between a job's durable intervals, found without going over all gaps.
+#![tactic(auto)]
+
 mod next;
 mod piece;
 

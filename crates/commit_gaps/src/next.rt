@@ -39,7 +39,7 @@ pub fn first_gap(
 
 // The next piece from a gap on: the number of its gap and the gap's bounds, and the gap from which to go on, which is m if
 // the range has ended.
-#[derive(Drop)]
+#[derive(Clone, Copy)]
 pub enum NextPiece {
     None,
     At {

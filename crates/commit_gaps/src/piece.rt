@@ -11,14 +11,14 @@ use format::span::RangeSpan;
 use key::Order;
 
 // All that the range is, or a part of which each bound is the range's (first) or the gap's (second).
-#[derive(Drop)]
+#[derive(Clone, Copy)]
 pub enum Piece {
     Whole,
     Cut(Side, Side),
 }
 
 // Nothing, or even a gap that starts where the range has ended; or a piece, which is the last one if the range ends in the gap.
-#[derive(Drop)]
+#[derive(Clone, Copy)]
 pub enum Meeting {
     Apart,
     Past,

@@ -1,4 +1,6 @@
 // View ids: the one that a view has, the one that publishes a table, and new ones from the lent supply.
+#![tactic(auto)]
+
 ghost use Rattle.std.specs.Prelude.{◌≡◌, not, ◌≤◌, ◌+◌, length, take, drop};
 ghost use Rattle.key.specs.Order.{cmp_key, is_equal};
 ghost use Rattle.incremental_progress.specs.Ids.{publishing_id};

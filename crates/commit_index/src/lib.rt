@@ -1,4 +1,6 @@
 // The run index: an image read whole, as `manifest` reads it, with a table of its runs, in one pass.
+#![tactic(auto)]
+
 mod runs;
 mod sources;
 
@@ -27,7 +29,7 @@ fn shared_fault(index: &[usize], n: usize, id: u64) -> u8
 }
 
 // A run, with the number of the first of the checks 4 to 7 that its views fail, or 8; or a stop.
-#[derive(Drop)]
+#[derive(Clone, Copy)]
 pub enum RunJudged {
     At { run: IndexedRun, fault: u8 },
     Stop(u8),
@@ -81,7 +83,7 @@ fn runs_indexed(s: &[u8], from: usize, n: usize, index: &mut [usize]) -> Judged
 }
 
 // How many runs the image has, with the number of the first of the checks 4 to 7 that fails, or 8; or a stop.
-#[derive(Drop)]
+#[derive(Clone, Copy)]
 pub enum Indexed {
     At { runs: usize, fault: u8 },
     Stop(u8),

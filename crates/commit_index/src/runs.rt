@@ -7,7 +7,7 @@ ghost use Rattle.manifest.specs.Checks.{has};
 ghost use Rattle.commit_index.specs.Index.{indexed_of, indexed_numbers, row_ids, image_ids, IndexHold, IndexedFound};
 
 // A run's id, how many views it has, and the places of the first and past the last.
-#[derive(Drop)]
+#[derive(Clone, Copy)]
 pub struct IndexedRun {
     pub id: u64,
     pub views: usize,

@@ -21,7 +21,7 @@ use format::span::RangeSpan;
 use records::TableSpan;
 
 // What is published of an output: nothing, all of it, or what lies in the interval.
-#[derive(Drop)]
+#[derive(Clone, Copy)]
 pub enum Published {
     Left,
     Whole,

@@ -12,7 +12,7 @@ ghost use Rattle.commit_plan.specs.Held.{view_at, HeldAt};
 use format::span::RangeSpan;
 
 // Where it stands, where its table ends, the place past it, its effective range, and the first gap that this can reach.
-#[derive(Drop)]
+#[derive(Clone, Copy)]
 pub struct ViewHeld {
     pub at: usize,
     pub end: usize,

@@ -12,7 +12,7 @@ use commit_rows::{RunKind, RunRow};
 
 // What the runs are planned with: the job's destination and its sources, which stand from a place on, how many gaps it has, and its
 // outputs, which are planned; and how many runs the image has.
-#[derive(Drop)]
+#[derive(Clone, Copy)]
 pub struct PlanHead {
     pub destination: u64,
     pub sources: usize,
@@ -23,7 +23,7 @@ pub struct PlanHead {
 }
 
 // All rows, how many of them are outputs, how many bytes the new image takes, and whether each of its runs is within the ceiling.
-#[derive(Drop)]
+#[derive(Clone, Copy)]
 pub struct ImagePlan {
     pub plan: Plan,
     pub outputs: usize,
@@ -32,7 +32,7 @@ pub struct ImagePlan {
 }
 
 // The kind of a run, and the plan after its rows.
-#[derive(Drop)]
+#[derive(Clone, Copy)]
 pub struct RunPlanned {
     pub kind: RunKind,
     pub plan: Plan,
@@ -76,7 +76,7 @@ fn plan_one<'a>(
 }
 
 // How many views and bytes a run has afterwards.
-#[derive(Drop)]
+#[derive(Clone, Copy)]
 pub struct RunSize {
     pub views: usize,
     pub bytes: usize,

@@ -1,5 +1,7 @@
 // The tables that a commit's stages hand on, some numbers to a row: the gaps between durable intervals, the parts of the job,
 // the runs of the old image, and the views of the new one.
+#![tactic(auto)]
+
 mod bounds;
 mod gaps;
 mod parts;

@@ -9,7 +9,7 @@ use format::BoundSpan;
 
 // Whether a part has a durable interval, whether it is completed, how many outputs it has and the place of the first, and
 // the interval's bounds. Without an interval they are not read.
-#[derive(Drop)]
+#[derive(Clone, Copy)]
 pub struct PartSpan {
     pub durable: bool,
     pub completed: bool,

@@ -10,7 +10,7 @@ use format::BoundSpan;
 
 // What is written: a view of the image as it is, or a range of one under a new id, each of its bounds out of the image
 // (first) or out of the job (second); an output of the job whole, or the durable range of one under a new id.
-#[derive(Drop)]
+#[derive(Clone, Copy)]
 pub enum Form {
     Whole,
     Output,
@@ -20,7 +20,7 @@ pub enum Form {
 
 // The view or the output stands from one place to another: of a view that is cut, up to the end of its table. Of a range, its
 // bounds and the place of ten bytes of the supply. The bucket says where it comes in the destination.
-#[derive(Drop)]
+#[derive(Clone, Copy)]
 pub struct Row {
     pub form: Form,
     pub bucket: usize,

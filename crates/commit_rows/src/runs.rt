@@ -7,7 +7,7 @@ ghost use Rattle.commit_rows.specs.Numbers.{run_kind_of, run_kind_number, run_of
 use crate::bounds::put_four;
 
 // A run that stays as it is, one whose views are cut, or the one that is cut and takes the outputs.
-#[derive(Drop)]
+#[derive(Clone, Copy)]
 pub enum RunKind {
     Other,
     Source,
@@ -15,7 +15,7 @@ pub enum RunKind {
 }
 
 // Its id, how many views it has, the places of the first and past the last, and how many rows of the plan are its own.
-#[derive(Drop)]
+#[derive(Clone, Copy)]
 pub struct RunRow {
     pub id: usize,
     pub views: usize,

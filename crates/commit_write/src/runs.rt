@@ -10,14 +10,14 @@ use crate::views::put_part;
 use commit_rows::{RunKind, RunRow};
 
 // How many runs there are, and how many outputs go into the destination.
-#[derive(Drop)]
+#[derive(Clone, Copy)]
 pub struct Counts {
     pub runs: usize,
     pub outputs: usize,
 }
 
 // How far the plan is written: how many outputs there are, the first row of the next run, and where it goes.
-#[derive(Drop)]
+#[derive(Clone, Copy)]
 pub struct Reached {
     pub outputs: usize,
     pub row: usize,

@@ -1,5 +1,7 @@
 // Bounds and ranges of keys, as comparable_range.rs has them. A bound is a kind and a key; of an unbounded one the key is
 // not looked at.
+#![tactic(auto)]
+
 ghost use Rattle.std.specs.Prelude.{◌≡◌};
 ghost use Rattle.comparable_range.specs.Range.{bound_of, range_of, of, cmp_bound, non_empty, holds, start_holds, end_holds};
 ghost use Rattle.comparable_range.specs.Range.{are_adjacent, cmp_range, start_side, end_side, intersect_sides, greater_end_side};
@@ -9,7 +11,7 @@ ghost use Rattle.comparable_range.specs.Factors.{is_keyed, tie, key_order, passe
 
 use key::Order;
 
-#[derive(Drop)]
+#[derive(Clone, Copy)]
 pub enum Kind {
     Unbounded,
     Included,
@@ -17,14 +19,14 @@ pub enum Kind {
 }
 
 // One of two ranges.
-#[derive(Drop)]
+#[derive(Clone, Copy)]
 pub enum Side {
     First,
     Second,
 }
 
 // Which of two ranges supplies the start of a third and which the end, if there is a third.
-#[derive(Drop)]
+#[derive(Clone, Copy)]
 pub enum Sides {
     Nothing,
     From(Side, Side),

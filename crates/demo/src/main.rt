@@ -1,6 +1,8 @@
 // What the library is for: a compaction whose worker stopped half way is committed as far as it came, and no reading is
 // lost. Run 7 is the destination and a source, run 9 the other source. The program has no input; each listing is that of
 // the image which the commit before it wrote, and the first line says how to read one.
+#![tactic(auto)]
+
 mod build;
 
 ghost use Rattle.std.specs.Prelude.{◌≡◌, true, false, take};

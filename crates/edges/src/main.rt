@@ -1,5 +1,7 @@
 // Runs document 01's edges through the public calls and writes what they answer. The starred ones are also proved, as
 // rows of one list, in specs/Edges.antt.
+#![tactic(auto)]
+
 use base::Written;
 use bilqarush::{Compared, Covered, Estimated, Tested};
 

@@ -5,7 +5,7 @@ ghost use Rattle.format.specs.Given.{bound_given, given_of};
 use comparable_range::Kind;
 
 // What a bound is that is given by its kind's number and its key.
-#[derive(Drop)]
+#[derive(Clone, Copy)]
 pub enum Given {
     Bound(Kind),
     Stop(u8),

@@ -1,4 +1,6 @@
 // The layouts of document 01, "Images": keys and ranges. What is read is read in place: an answer says where it stands.
+#![tactic(auto)]
+
 mod given;
 mod range;
 pub mod span;
@@ -16,7 +18,7 @@ pub use there::{KeySpan, bound_there, end_kind, key_there, number_there, start_k
 pub use write::{put, put_byte, put_key, put_number};
 
 // What reading a number finds.
-#[derive(Drop)]
+#[derive(Clone, Copy)]
 pub enum Number {
     Value(u64),
     Short,
@@ -59,7 +61,7 @@ pub fn number_at(s: &[u8], at: usize, n: usize) -> Number
 }
 
 // What reading a key finds: its bytes start at start and are len long, and next is past them.
-#[derive(Drop)]
+#[derive(Clone, Copy)]
 pub enum KeyRead {
     At {
         start: usize,

@@ -6,7 +6,7 @@ use crate::{KeyRead, key_at};
 use comparable_range::Kind;
 
 // What the head byte says: the kinds of start and end.
-#[derive(Drop)]
+#[derive(Clone, Copy)]
 pub enum Head {
     Kinds(Kind, Kind),
     Stop(u8),
@@ -65,14 +65,14 @@ pub fn head_byte(ks: Kind, ke: Kind) -> u8
 }
 
 // A bound: its kind, and where its key stands. An unbounded one has no key, and its span is empty.
-#[derive(Drop)]
+#[derive(Clone, Copy)]
 pub struct BoundSpan {
     pub kind: Kind,
     pub at: usize,
     pub len: usize,
 }
 
-#[derive(Drop)]
+#[derive(Clone, Copy)]
 pub enum BoundRead {
     At(BoundSpan, usize),
     Stop(u8),
@@ -104,7 +104,7 @@ fn bound_at(kind: Kind, s: &[u8], at: usize) -> BoundRead
 }
 
 // What reading a range finds: its bounds, and the place past it.
-#[derive(Drop)]
+#[derive(Clone, Copy)]
 pub enum RangeRead {
     At {
         start: BoundSpan,

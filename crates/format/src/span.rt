@@ -11,21 +11,21 @@ use comparable_range::{Kind, Side, Sides};
 use key::Order;
 
 // A range whose bounds stand in one slice.
-#[derive(Drop)]
+#[derive(Clone, Copy)]
 pub struct RangeSpan {
     pub start: BoundSpan,
     pub end: BoundSpan,
 }
 
 // A bound, and which of two slices it stands in.
-#[derive(Drop)]
+#[derive(Clone, Copy)]
 pub struct Supplied {
     pub side: Side,
     pub bound: BoundSpan,
 }
 
 // A range of which each bound stands in one of two slices.
-#[derive(Drop)]
+#[derive(Clone, Copy)]
 pub struct JointSpan {
     pub start: Supplied,
     pub end: Supplied,
@@ -33,7 +33,7 @@ pub struct JointSpan {
 
 // What a call answers: a range of which each bound stands in one of the two lent slices, that there is none, or the number of
 // the stop.
-#[derive(Drop)]
+#[derive(Clone, Copy)]
 pub enum Joined {
     Range(Supplied, Supplied),
     Nothing,
@@ -241,7 +241,7 @@ pub fn end_part<'a>(a: &'a [u8], b: &'a [u8], joined: Joined) -> &'a [u8]
 }
 
 // What two ranges have in common, if there is something: each bound as it was supplied.
-#[derive(Drop)]
+#[derive(Clone, Copy)]
 pub enum Met {
     Nothing,
     At(JointSpan),

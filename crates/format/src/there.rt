@@ -23,7 +23,7 @@ pub fn number_there(s: &[u8], at: usize, n: usize) -> u64
 }
 
 // Where a key's bytes stand. What comes after the key comes right after them.
-#[derive(Drop)]
+#[derive(Clone, Copy)]
 pub struct KeySpan {
     pub at: usize,
     pub len: usize,

@@ -1,4 +1,6 @@
 // `from_compaction` of incremental_progress.rs: what of a job is durable.
+#![tactic(auto)]
+
 mod ranges;
 
 ghost use Rattle.std.specs.Prelude.{◌≡◌, length};

@@ -41,7 +41,7 @@ fn put_part(job: &[u8], p: PartSpan, out: &mut [u8], to: usize) -> usize
 }
 
 // How many parts have a durable interval, and how many bytes its ranges take.
-#[derive(Drop)]
+#[derive(Clone, Copy)]
 pub struct Measure {
     pub count: usize,
     pub bytes: usize,

@@ -1,4 +1,6 @@
 // What the calls answer, as text on standard output.
+#![tactic(auto)]
+
 ghost use Rattle.std.specs.Prelude.{◌≡◌, take};
 ghost use Rattle.image_report.specs.Answers.{stop_or};
 

@@ -1,5 +1,7 @@
 // Builds images in memory and writes what the calls on images answer. The expected answers, in the file stdout, are
 // document 01's. Lengths are written too: a line shows that its image is the one meant.
+#![tactic(auto)]
+
 mod build;
 
 use image_report::case;

@@ -1,9 +1,11 @@
 // Byte keys and their order, as `Bytes: Ord` has it.
+#![tactic(auto)]
+
 ghost use Rattle.std.specs.Prelude.{◌≡◌, ◌+◌, ◌<◌, ◌≤◌, min, length, take, drop};
 ghost use Rattle.key.specs.Order.{cmp_key, cmp_number, or_else, sign, is_less, is_equal, at_most};
 ghost use Rattle.key.specs.Word.{digits, WordAt, ReversedAt, Agree, Further};
 
-#[derive(Drop)]
+#[derive(Clone, Copy)]
 pub enum Order {
     Less,
     Equal,

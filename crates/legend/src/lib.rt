@@ -1,4 +1,6 @@
 // How to read a listing, in one line for people. It stands before a listing and never in one.
+#![tactic(auto)]
+
 pub fn write(fd: i32) {
     io::write_all(
         fd,

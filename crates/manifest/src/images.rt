@@ -15,7 +15,7 @@ use format::span::RangeSpan;
 use records::{CountRead, RunRead, ViewRead};
 
 // The place past what was read, with the number of the first of the checks 4 to 7 that fails, or 8; or a stop.
-#[derive(Drop)]
+#[derive(Clone, Copy)]
 pub enum Judged {
     At { next: usize, fault: u8 },
     Stop(u8),

@@ -1,4 +1,6 @@
 // The checks 4 to 7 of an image and an index, the total of anchors, and the effective ranges of an image's views.
+#![tactic(auto)]
+
 mod anchors;
 mod checks;
 mod images;

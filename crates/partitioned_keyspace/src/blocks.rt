@@ -12,7 +12,7 @@ use format::BoundSpan;
 use key::Order;
 use records::BlockRead;
 
-#[derive(Drop)]
+#[derive(Clone, Copy)]
 pub struct IndexPoints {
     pub partitions: usize,
     pub start: KeyPoint,
@@ -20,7 +20,7 @@ pub struct IndexPoints {
     pub ascends: bool,
 }
 
-#[derive(Drop)]
+#[derive(Clone, Copy)]
 pub enum Reading {
     At(IndexPoints),
     Stop(u8),

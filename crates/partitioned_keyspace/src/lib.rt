@@ -1,4 +1,6 @@
 // Lookups of keys and ranges among partitions, each of which says its first key: the blocks of an index image.
+#![tactic(auto)]
+
 mod blocks;
 mod point;
 mod ranges;
@@ -18,21 +20,21 @@ use crate::ranges::covered_by;
 use format::RangeRead;
 
 // The tests of `partition_point`.
-#[derive(Drop)]
+#[derive(Clone, Copy)]
 pub enum Test {
     Below,
     AtOrBelow,
 }
 
 // A number of partitions, or the number of a stop.
-#[derive(Drop)]
+#[derive(Clone, Copy)]
 pub enum Counted {
     Is(usize),
     Stop(u8),
 }
 
 // The place of a partition, if there is one.
-#[derive(Drop)]
+#[derive(Clone, Copy)]
 pub enum Found {
     At(usize),
     Nothing,
@@ -40,7 +42,7 @@ pub enum Found {
 }
 
 // The partitions from one place up to, without, another.
-#[derive(Drop)]
+#[derive(Clone, Copy)]
 pub enum Covered {
     Places(usize, usize),
     Stop(u8),

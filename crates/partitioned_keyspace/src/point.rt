@@ -10,13 +10,13 @@ use comparable_range::Kind;
 use key::Order;
 
 // How many first keys, from the first on, stand below a key, and how many at or below it.
-#[derive(Drop)]
+#[derive(Clone, Copy)]
 pub struct KeyPoint {
     pub below: usize,
     pub at_most: usize,
 }
 
-#[derive(Drop)]
+#[derive(Clone, Copy)]
 pub enum Pointed {
     At(KeyPoint),
     Stop(u8),

@@ -1,5 +1,7 @@
 // `plan_subcompaction_ranges` of subcompaction.rs: an image, and one index image for each of its views, laid end to end in one
 // buffer, give the ranges of its compaction.
+#![tactic(auto)]
+
 ghost use Rattle.std.specs.Prelude.{◌≡◌, ◌≤◌, max, T, length};
 ghost use Rattle.base.specs.Outcome.{lent, reported};
 ghost use Rattle.records.specs.Found.{is_got, values_of};
@@ -18,7 +20,7 @@ use sampled::{Kept, Sampling, sample};
 
 // What the walk over the views has found so far: the place past the last index image, the number of the first check of the
 // index images that fails or 8, the anchors that were kept, and the largest raw size.
-#[derive(Drop)]
+#[derive(Clone, Copy)]
 pub struct SoFar {
     pub at: usize,
     pub fault: u8,
@@ -27,14 +29,14 @@ pub struct SoFar {
 }
 
 // What was found of all views, or the number of the stop.
-#[derive(Drop)]
+#[derive(Clone, Copy)]
 pub enum Walked {
     All(SoFar),
     Stop(u8),
 }
 
 // The place past a run's views with what was found so far, or the number of the stop.
-#[derive(Drop)]
+#[derive(Clone, Copy)]
 pub enum RunWalked {
     At(usize, SoFar),
     Stop(u8),

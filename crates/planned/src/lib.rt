@@ -1,4 +1,6 @@
 // Ranges from anchors: the sorted keys are walked for boundaries, and the plan is measured and written.
+#![tactic(auto)]
+
 ghost use Rattle.std.specs.Prelude.{◌≡◌, ◌&&◌, ◌≤◌, ◌<◌, ◌+◌, ◌^◌, T, ltb, leb, length, take, drop};
 ghost use Rattle.base.specs.Outcome.{reported, lent, written_to};
 ghost use Rattle.base.specs.Splice.{splice};
@@ -18,7 +20,7 @@ use key_rows::{key_part, put_key, same_key};
 use sorted_keys::{sort_few, sort_many};
 
 // How many ranges are asked for, the least bytes of one, and the bytes of all anchors.
-#[derive(Drop)]
+#[derive(Clone, Copy)]
 pub struct Asked {
     pub parts: usize,
     pub least: u64,

@@ -1,4 +1,6 @@
 // The bytes of a range, written into a lent buffer at a place. Each function that puts answers the place past what it put.
+#![tactic(auto)]
+
 ghost use Rattle.std.specs.Prelude.{◌≡◌, ◌≤◌, ◌+◌, length};
 ghost use Rattle.comparable_range.specs.Range.{bound_of, range_of};
 ghost use Rattle.format.specs.Key.{write_key};

@@ -7,7 +7,7 @@ use crate::fields::number_here;
 use format::KeyRead;
 
 // A block's offset, where its first key stands, and the place past it.
-#[derive(Drop)]
+#[derive(Clone, Copy)]
 pub enum BlockRead {
     At {
         offset: u64,
@@ -39,7 +39,7 @@ pub fn block_at(s: &[u8], at: usize) -> BlockRead
 }
 
 // Where an anchor's key stands, its bytes, and the place past it.
-#[derive(Drop)]
+#[derive(Clone, Copy)]
 pub enum AnchorRead {
     At {
         start: usize,

@@ -14,7 +14,7 @@ pub fn number_here(s: &[u8], at: usize, n: usize) -> u64
 }
 
 // What a flag and its 7 bits of padding say.
-#[derive(Drop)]
+#[derive(Clone, Copy)]
 pub enum FlagRead {
     Is(bool),
     Stop(u8),

@@ -1,10 +1,10 @@
 // The ids of tables and of views: 16 bytes each, and never compared with each other.
 ghost use Rattle.std.specs.Prelude.{◌≡◌, ◌+◌, ◌≤◌, length, take, drop};
 
-#[derive(Drop)]
+#[derive(Clone, Copy)]
 pub struct TableId(pub [u8; 16]);
 
-#[derive(Drop)]
+#[derive(Clone, Copy)]
 pub struct ViewId(pub [u8; 16]);
 
 // The id of a table, at a place.

@@ -1,5 +1,7 @@
 // The layouts of document 01, "Images", beyond keys and ranges: tables, views, runs, jobs, blocks, anchors. What is read is
 // read in place: an answer says where it stands. An image is read by one reader alone.
+#![tactic(auto)]
+
 mod blocks;
 mod fields;
 mod ids;

@@ -7,7 +7,7 @@ use crate::runs::{CountRead, count_at};
 use format::{BoundSpan, RangeRead};
 
 // A part's planned range, whether it is completed, how many outputs it has, and the place of the first.
-#[derive(Drop)]
+#[derive(Clone, Copy)]
 pub enum PartRead {
     At {
         start: BoundSpan,
@@ -50,7 +50,7 @@ pub fn part_at(s: &[u8], at: usize) -> PartRead
 }
 
 // How many sources a job has, the place of the first one's id, and the place past the last.
-#[derive(Drop)]
+#[derive(Clone, Copy)]
 pub enum SourcesRead {
     At {
         count: usize,
@@ -83,7 +83,7 @@ fn sources_at(s: &[u8], at: usize) -> SourcesRead
 
 // A job's destination, how many sources it has and the place of the first one's id, how many parts it has and the place
 // of the first.
-#[derive(Drop)]
+#[derive(Clone, Copy)]
 pub enum JobRead {
     At {
         destination: u64,

@@ -11,7 +11,7 @@ use crate::runs::{CountRead, RunRead, count_span, none_left, run_span};
 use crate::there::{RunSpan, known_count, known_run, known_view};
 use crate::views::{ViewRead, ViewSpan, view_span};
 
-#[derive(Drop)]
+#[derive(Clone, Copy)]
 pub struct Reader<'a> {
     pub image: &'a [u8],
     pub at: usize,

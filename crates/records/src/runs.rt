@@ -6,7 +6,7 @@ ghost use Rattle.records.specs.Spans.{run_head, RunFound, CountFound};
 use crate::fields::number_here;
 
 // A run's id, how many views it has, and the place of the first.
-#[derive(Drop)]
+#[derive(Clone, Copy)]
 pub enum RunRead {
     At { id: u64, views: usize, next: usize },
     Stop(u8),
@@ -36,7 +36,7 @@ pub fn run_span(s: &[u8], at: usize) -> RunRead
 }
 
 // A count, and the place past it.
-#[derive(Drop)]
+#[derive(Clone, Copy)]
 pub enum CountRead {
     At(usize, usize),
     Stop(u8),

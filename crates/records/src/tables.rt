@@ -8,7 +8,7 @@ use format::KeyRead;
 
 // Where a table's fields stand: id is the place of its id, past the place past it. Without a last key, flagged is false and
 // the last span is empty.
-#[derive(Drop)]
+#[derive(Clone, Copy)]
 pub struct TableSpan {
     pub id: usize,
     pub index_offset: u64,
@@ -22,7 +22,7 @@ pub struct TableSpan {
     pub past: usize,
 }
 
-#[derive(Drop)]
+#[derive(Clone, Copy)]
 pub enum TableRead {
     At(TableSpan),
     Stop(u8),

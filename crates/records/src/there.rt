@@ -14,7 +14,7 @@ use comparable_range::Kind;
 use format::{BoundSpan, KeySpan};
 
 // A run's id, how many views it has, and the place of the first.
-#[derive(Drop)]
+#[derive(Clone, Copy)]
 pub struct RunSpan {
     pub id: u64,
     pub views: usize,
@@ -140,7 +140,7 @@ pub fn views_end(s: &[u8], from: usize, n: usize) -> usize
 }
 
 // A block's offset, the place of its first key's field, and the place past it.
-#[derive(Drop)]
+#[derive(Clone, Copy)]
 pub struct BlockSpan {
     pub offset: u64,
     pub key: usize,

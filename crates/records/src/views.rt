@@ -10,7 +10,7 @@ use comparable_range::Kind;
 use format::{BoundSpan, RangeRead};
 
 // Where a view's fields stand: id is the place of its id, past the place past it. Without a visible range, shown is false.
-#[derive(Drop)]
+#[derive(Clone, Copy)]
 pub struct ViewSpan {
     pub id: usize,
     pub table: TableSpan,
@@ -20,7 +20,7 @@ pub struct ViewSpan {
     pub past: usize,
 }
 
-#[derive(Drop)]
+#[derive(Clone, Copy)]
 pub enum ViewRead {
     At(ViewSpan),
     Stop(u8),

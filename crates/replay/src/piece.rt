@@ -2,7 +2,7 @@
 use crate::input;
 
 // A record's head: a call, two numbers, and how many bytes follow.
-#[derive(Drop)]
+#[derive(Clone, Copy)]
 pub struct Fields {
     pub call: u8,
     pub x: usize,
@@ -23,7 +23,7 @@ pub fn fields_of(head: &[u8]) -> Fields {
 }
 
 // What a record made of a buffer.
-#[derive(Drop)]
+#[derive(Clone, Copy)]
 pub enum Piece {
     // The buffer holds so many bytes from here on.
     Held(usize),

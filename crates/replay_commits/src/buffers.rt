@@ -1,6 +1,6 @@
 // How many bytes are held of the buffers that the records make: 0 the image, 1 the job, 2 the id supply, 3 the answer.
 
-#[derive(Drop)]
+#[derive(Clone, Copy)]
 pub struct Lengths {
     pub image: usize,
     pub job: usize,

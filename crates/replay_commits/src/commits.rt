@@ -7,7 +7,7 @@ use base::Written;
 use replay::buffer;
 
 // What a commit answered, and whether that and the lent buffer are what was recorded.
-#[derive(Drop)]
+#[derive(Clone, Copy)]
 pub struct Made {
     pub agreed: bool,
     pub written: Written,

@@ -3,6 +3,8 @@
 // recorded answer: new images are the Rust's, stops are those of a second reading of document 01. In a list the image is
 // from then on the one that the commit wrote here, if it wrote one. A line for the commits alone, for those in lists and
 // for each stop says how many agree.
+#![tactic(auto)]
+
 mod buffers;
 mod commits;
 
@@ -34,7 +36,7 @@ fn stop_slot(stop: u8) -> usize
 }
 
 // What a record did.
-#[derive(Drop)]
+#[derive(Clone, Copy)]
 enum Turn {
     // It was a commit, with this stop recorded, 0 if none. The image has so many bytes from here on.
     Committed {

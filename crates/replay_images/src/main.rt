@@ -1,6 +1,8 @@
 // Replays recorded answers to the calls on images. A record of standard input changes the image, or it is a call on it with
 // the answer that the Rust and a second reading of document 01 have; the call is made here. A line for each call and for
 // each stop says how many of its answers were the recorded bytes, whole.
+#![tactic(auto)]
+
 mod calls;
 
 ghost use Rattle.std.specs.Prelude.{◌<◌};
@@ -29,7 +31,7 @@ fn stop_slot(stop: u8) -> usize
 }
 
 // What a record did.
-#[derive(Drop)]
+#[derive(Clone, Copy)]
 enum Turn {
     // It was a call, with this stop recorded, 0 if none.
     Called { call: u8, stop: u8, agreed: bool },

@@ -2,6 +2,8 @@
 // buffers, the two that a call reads and the answer, or it is a call on them, which is made here. What the call answers and every
 // byte of the lent buffer are held to the recorded answer: anchors, plans and intervals are the Rust's, stops are those of a second
 // reading of document 01. A line for each call and for each stop says how many agree.
+#![tactic(auto)]
+
 mod calls;
 
 ghost use Rattle.std.specs.Prelude.{◌<◌};
@@ -10,7 +12,7 @@ use replay::piece::{Fields, HEAD, Piece};
 use replay::{buffer, input, piece, tally};
 
 // How many bytes are held of the buffers: 0 the first that a call reads, 1 the second, 2 the answer.
-#[derive(Drop)]
+#[derive(Clone, Copy)]
 struct Lengths {
     first: usize,
     second: usize,
@@ -63,7 +65,7 @@ fn stop_slot(stop: u8) -> usize
 }
 
 // What a record did.
-#[derive(Drop)]
+#[derive(Clone, Copy)]
 enum Turn {
     // It was a call, with this stop recorded, 0 if none.
     Called { call: u8, stop: u8, agreed: bool },

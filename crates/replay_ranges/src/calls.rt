@@ -9,7 +9,7 @@ use replay::answer::Place;
 use replay::{answer, buffer, kind};
 
 // What a record's head has beside the lengths.
-#[derive(Drop)]
+#[derive(Clone, Copy)]
 pub struct Fields {
     pub call: u8,
     pub x: u8,

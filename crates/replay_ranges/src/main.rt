@@ -1,5 +1,7 @@
 // Replays recorded answers of the Rust. Each record of standard input is a call, its arguments and the Rust's answer; the
 // call is made here, and a line for each call says how many of its answers were the recorded bytes, whole.
+#![tactic(auto)]
+
 mod calls;
 
 ghost use Rattle.std.specs.Prelude.{◌<◌};
@@ -45,7 +47,7 @@ fn body_agrees(f: Fields, body: &[u8], a: usize, b: usize, answer: usize, out: &
 }
 
 // What a record did.
-#[derive(Drop)]
+#[derive(Clone, Copy)]
 enum Turn {
     Called { call: u8, agreed: bool },
     // The input has ended, and so many bytes of it are left over.

@@ -1,5 +1,7 @@
 // Reads an image from standard input and writes its listing, or `stop N` for an image that is refused. Document 01,
 // program `runlist`. A listing is all that goes to standard output; how to read it is said on standard error.
+#![tactic(auto)]
+
 ghost use Rattle.std.specs.Prelude.{◌≤◌, ◌≡◌, length};
 ghost use Rattle.base.specs.Outcome.{over};
 ghost use Rattle.io.specs.Counts.{IsPrefixLen};

@@ -1,4 +1,6 @@
 // `sample_anchors` of subcompaction.rs: the anchors of a table, from the blocks of its index.
+#![tactic(auto)]
+
 mod put;
 
 ghost use Rattle.std.specs.Prelude.{◌≡◌, ◌≤◌, T, length, drop};

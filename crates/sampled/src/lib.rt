@@ -1,4 +1,6 @@
 // The anchors of a table: its blocks in groups, each with its first key and its bytes; those whose key a range holds.
+#![tactic(auto)]
+
 ghost use Rattle.std.specs.Prelude.{◌≡◌, ◌≤◌, ◌<◌, ◌+◌, ◌-◌, ◌^◌, T, length, drop, set};
 ghost use Rattle.format.specs.Got.{is_got};
 ghost use Rattle.format.specs.Key.{read_key};
@@ -17,7 +19,7 @@ use format::span::RangeSpan;
 use key_rows::key_part;
 
 // What is sampled: the index at a place, at most so many anchors, and where the table's data end.
-#[derive(Drop)]
+#[derive(Clone, Copy)]
 pub struct Sampling {
     pub at: usize,
     pub most: usize,
@@ -25,14 +27,14 @@ pub struct Sampling {
 }
 
 // How many anchors were found, and the total of their bytes, or 2^63 once that is reached.
-#[derive(Drop)]
+#[derive(Clone, Copy)]
 pub struct Kept {
     pub rows: usize,
     pub total: u64,
 }
 
 // A group of blocks: the place of its first key's field, its bytes, the place past it, and how many blocks are left after it.
-#[derive(Drop)]
+#[derive(Clone, Copy)]
 pub struct GroupSpan {
     pub key: usize,
     pub bytes: u64,

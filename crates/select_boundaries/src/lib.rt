@@ -1,4 +1,6 @@
 // `select_boundaries` of subcompaction.rs: anchors that are the whole of a buffer are read into tables in one pass, and ranges made of them.
+#![tactic(auto)]
+
 ghost use Rattle.std.specs.Prelude.{◌≡◌, ◌≤◌, length, drop};
 ghost use Rattle.base.specs.Outcome.{reported, lent};
 ghost use Rattle.records.specs.Form.{read_many};
@@ -14,14 +16,14 @@ use records::{AnchorRead, CountRead};
 const TOO_MANY_BYTES: u64 = 9223372036854775808;
 
 // The total of the anchors' bytes, or 2^63 if that is less, and the place past them; or a stop.
-#[derive(Drop)]
+#[derive(Clone, Copy)]
 pub enum AnchorsRead {
     At { total: u64, next: usize },
     Stop(u8),
 }
 
 // As many parts at most, and as many bytes a range at least.
-#[derive(Drop)]
+#[derive(Clone, Copy)]
 pub struct Settings {
     pub parts: usize,
     pub least: u64,

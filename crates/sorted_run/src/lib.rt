@@ -1,4 +1,6 @@
 // Lookups in the views of a run.
+#![tactic(auto)]
+
 mod tables;
 mod views;
 

@@ -18,7 +18,7 @@ use partitioned_keyspace::Covered;
 use records::RunSpan;
 
 // How many views, from the first on, start at or below the asked start's key, and how many within the asked end.
-#[derive(Drop)]
+#[derive(Clone, Copy)]
 pub struct Leads {
     pub start: usize,
     pub end: usize,

@@ -15,7 +15,7 @@ use records::RunSpan;
 use sst_view::views::{end_before, intersects};
 
 // The effective range of a view, and the place past the view.
-#[derive(Drop)]
+#[derive(Clone, Copy)]
 pub struct EffectiveSpan {
     pub range: RangeSpan,
     pub past: usize,

@@ -7,7 +7,7 @@ use format::{BoundSpan, Given, RangeRead};
 use manifest::Judged;
 
 // The asked range, where it stands, or the number of the stop.
-#[derive(Drop)]
+#[derive(Clone, Copy)]
 pub enum Asked {
     Range(RangeSpan),
     Stop(u8),
@@ -47,7 +47,7 @@ pub fn image_and_range(image: &[u8], range: &[u8]) -> Asked
 }
 
 // An end bound and the asked range, where they stand, or the number of the stop.
-#[derive(Drop)]
+#[derive(Clone, Copy)]
 pub enum EndAsked {
     At(BoundSpan, RangeSpan),
     Stop(u8),

@@ -1,4 +1,6 @@
 // Runs and views of an image: called by place, and looked up by an asked range.
+#![tactic(auto)]
+
 pub mod asked;
 pub mod places;
 pub mod views;

@@ -29,7 +29,7 @@ fn runs_end(s: &[u8], from: usize, n: usize) -> usize
 }
 
 // A run of an image, or the number of the stop.
-#[derive(Drop)]
+#[derive(Clone, Copy)]
 pub enum RunPlaced {
     At(RunSpan),
     Stop(u8),

@@ -1,1 +1,2 @@
 // The planner of subcompaction.rs: anchors, boundaries, ranges.
+#![tactic(auto)]

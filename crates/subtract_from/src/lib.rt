@@ -1,4 +1,6 @@
 // `subtract_from` of incremental_progress.rs: what of a range lies outside a durable interval. Both are read in place.
+#![tactic(auto)]
+
 mod parts;
 mod put;
 

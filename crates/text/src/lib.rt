@@ -1,4 +1,6 @@
 // Numbers and bytes as ASCII text, put into a lent buffer at a place. The caller has measured: what is put fits.
+#![tactic(auto)]
+
 ghost use Rattle.std.specs.Prelude.{◌≡◌, ◌≤◌, ◌<◌, ◌+◌, length};
 ghost use Rattle.base.specs.Splice.{splice};
 ghost use Rattle.text.specs.Text.{glyph, decimal, hex};

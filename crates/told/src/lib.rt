@@ -1,6 +1,8 @@
 // How a call for C tells its answer: the number of the stop is returned, or 0; a number that it answers stands in a slot of the
 // caller's, bytes stand at the front of a lent buffer. A stop leaves slots and buffers as they were. The crate `told_bytes` puts
 // the bytes of an answer with places.
+#![tactic(auto)]
+
 ghost use Rattle.std.specs.Prelude.{◌≡◌};
 ghost use Rattle.base.specs.Outcome.{test_of};
 ghost use Rattle.partitioned_keyspace.specs.Calls.{count_of, found_of, covered_of};

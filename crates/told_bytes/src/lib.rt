@@ -1,5 +1,7 @@
 // Answers of a call for C that are more than a number (a point, a range, a key), put into a lent buffer. It is measured before
 // the first byte is put.
+#![tactic(auto)]
+
 ghost use Rattle.std.specs.Prelude.{◌≡◌, ◌≤◌, ◌+◌, length};
 ghost use Rattle.base.specs.Outcome.{lent, reported, written_to};
 ghost use Rattle.base.specs.Splice.{splice};

@@ -1,4 +1,6 @@
 // The visible fraction and the visible size of a view of an image, and the visible size of a run.
+#![tactic(auto)]
+
 ghost use Rattle.std.specs.Prelude.{◌≡◌, true};
 ghost use Rattle.records.specs.Spans.{ViewInside, view_in};
 ghost use Rattle.manifest.specs.Checks.{all, size_passes};
@@ -18,14 +20,14 @@ use visible_size::fraction::ranges_fraction;
 use visible_size::size::visible_size;
 
 // How much of a view's table is visible, or the number of the stop.
-#[derive(Drop)]
+#[derive(Clone, Copy)]
 pub enum Shown {
     Fraction(VisibleFraction),
     Stop(u8),
 }
 
 // A size in bytes, or the number of the stop.
-#[derive(Drop)]
+#[derive(Clone, Copy)]
 pub enum Estimated {
     Bytes(u64),
     Stop(u8),

@@ -1,0 +1,13 @@
+-- `key::number` meets its contract.
+-- Assumes nothing.
+use borrow.Author.Rules.{rules}
+use Rattle.key.proofs.number.Goals as goal
+
+pub returns-in-Less : goal.returns-in-Less
+returns-in-Less c = cc
+
+pub returns-in-Equal : goal.returns-in-Equal
+returns-in-Equal c = cc
+
+pub returns-in-Greater : goal.returns-in-Greater
+returns-in-Greater c = cc
