@@ -88,6 +88,8 @@ class Function:
             return None, ["c", f] + self.clause(f, rest[1:])
         if old and flat(f) in (flat(old), flat(old) + "_lem"):
             tail = rest[1:]
+            if flat(old) == "match" and tail and re.fullmatch(r"\w+[a-z]\d+", tail[0]):
+                tail = ["is"] + tail[1:]
             if tail and tail[0] == "taken":
                 tail = ["true" if at.startswith("Then") or at.startswith("In") else "false"] + tail[1:]
             if tail and tail[0] in ("ensures", "requires"):

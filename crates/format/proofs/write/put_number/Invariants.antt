@@ -1,0 +1,12 @@
+-- `format::put_number` meets its contract, by what its loop keeps.
+-- Assumes nothing.
+use Rattle.format.proofs.Puts.{counts}
+use Rattle.format.proofs.Puts.{Counted}
+use borrow.Author.Rules.{rules}
+use Rattle.format.proofs.write.put_number.Given as goal
+
+abbrev pub invariant-loop-i : goal.invariant-loop-i
+invariant-loop-i l = Counted l.initial.out l.at l.v l.n l.out l.rest l.i
+
+abbrev pub decreases-loop-i : goal.decreases-loop-i
+decreases-loop-i l = l.i
