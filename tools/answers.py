@@ -85,7 +85,8 @@ class Function:
             if v:
                 return None, ["c", "type_inv", v] + rest[1:]
         if f in ("args", "requires", "ranges"):
-            return None, ["c", f] + self.clause(f, rest[1:])
+            own = self.names["pre"] if f == "requires" else None
+            return None, ["c", f] + self.clause(own and own.get("fields"), rest[1:])
         if old and flat(f) in (flat(old), flat(old) + "_lem"):
             tail = rest[1:]
             if flat(old) == "match" and tail and re.fullmatch(r"\w+[a-z]\d+", tail[0]):
@@ -93,13 +94,25 @@ class Function:
             if tail and tail[0] == "taken":
                 tail = ["true" if at.startswith("Then") or at.startswith("In") else "false"] + tail[1:]
             if tail and tail[0] in ("ensures", "requires"):
-                tail = [tail[0]] + self.clause(tail[0], tail[1:])
+                order = [q[0] for q in self.names["places"]]
+                known = self.names["clauses"][order.index(at)]
+                tail = [tail[0]] + self.clause(known and known.get("fields"), tail[1:])
             return None, ["c", new] + tail
         self.said.append(f"{f} at {at} ({old})")
         return None, ["c"] + rest
 
-    def clause(self, kind, tail):
-        return tail
+    def clause(self, fields, tail):
+        """The old fields .1.1.0 of a clause among several are its name."""
+        if not fields or len(fields) < 2:
+            return tail
+        i, rest = 0, list(tail)
+        while i < len(fields) - 1 and rest and rest[0] == "1":
+            i, rest = i + 1, rest[1:]
+        if i < len(fields) - 1:
+            if not rest or rest[0] != "0":
+                return tail
+            rest = rest[1:]
+        return [fields[i]] + rest
 
     def turn(self, text, place):
         """Rewrites the paths of an answer."""
@@ -126,6 +139,38 @@ class Function:
             return m[0]
 
         return re.sub(r"(c\.type_inv\.\w+)\.given\b", r"\1", PATH.sub(one, text))
+
+
+def parts(term):
+    """The two sides of a pair (a, b), or None."""
+    t = term.strip()
+    if not (t.startswith("(") and t.endswith(")")):
+        return None
+    deep, cuts = 0, []
+    for i, ch in enumerate(t):
+        deep += (ch in "([{") - (ch in ")]}")
+        if deep == 0 and i < len(t) - 1:
+            return None
+        if deep == 1 and ch == ",":
+            cuts.append(i)
+    if len(cuts) != 1:
+        return None
+    return t[1 : cuts[0]].strip(), t[cuts[0] + 1 : -1].strip()
+
+
+def record_of(term, fields, report):
+    """A goal of several clauses takes a record, no longer pairs."""
+    at, values = term, []
+    while len(values) < len(fields) - 1:
+        two = parts(at)
+        if not two:
+            break
+        values.append(two[0])
+        at = two[1]
+    if not values:
+        return term
+    values += [at] * (len(fields) - len(values))
+    return " record { " + "; ".join(f"{f} = {v}" for f, v in zip(fields, values)) + " }"
 
 
 def convert(crate, folder, names, report):
@@ -199,6 +244,9 @@ def convert(crate, folder, names, report):
             fn.kinds = fn.names["typed"][order.index(place)] if place in order else []
             if place and re.search(r"(?<![\w'])c\.", term):
                 term = fn.turn(term, place)
+            fields = next((v for k, v in fn.names["asked"].items() if flat(k) == flat(fn.names["needs"][i][0])), None)
+            if fields and len(fields) > 1:
+                term = record_of(term, fields, report)
             ans.append("\n".join(lead + [f"pub {new} : goal.{new}", f"{d[1]}{new} c ={term}"]))
         elif re.match(r"pub [\w'-]+[-_]spec :", lines[0]):
             continue

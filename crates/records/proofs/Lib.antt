@@ -14,6 +14,3 @@ pub mod PartExits
 pub mod BlockExits
 pub mod Examples
 pub mod Within
-pub mod ReaderContracts
-pub mod MethodWalk
-pub mod PlainWalk

@@ -1,5 +1,5 @@
 // The one reader of images: the caller's bytes and a position in them. Its methods are thin: each takes the reader apart and
-// calls a function of the slice and the place, and is proved by hand. The functions after them have plain parameters; they
+// calls a function of the slice and the place. The functions after them have plain parameters; they
 // are what all other code calls.
 ghost use Rattle.std.specs.Prelude.{◌≡◌, ◌≤◌, T, leb, length, drop};
 ghost use Rattle.format.specs.Got.{is_got};
