@@ -58,47 +58,48 @@ class Function:
             return self.needs[key]
         # one goal alone may have been told apart by a number
         bare = re.sub(r"^overflow_", "", key)
-        for k in (bare, key + "_1", re.sub(r"_1$", "", key)):
+        for k in (bare, re.sub(r"^slice_bounds_", "part_", key), key + "_1", re.sub(r"_1$", "", key)):
             if k in self.needs:
                 return self.needs[k]
         return None
 
-    def walk(self, place, fields):
-        """The new path of the old fields, seen from an old place."""
-        while fields and fields[0] == "before":
-            place = self.places[place][1]
-            fields = fields[1:]
-        if place is None:
-            return None, None, fields
-        return place, self.places[place], fields
-
     def cite(self, place, fields):
-        at, row, rest = self.walk(place, fields)
-        if row is None:
-            return None, "too many"
+        rest = [f for f in fields if f != "before"]
         if not rest:
-            return at, None
+            return None, "a whole place"
         f = rest[0]
-        old, new = row[2]
-        if re.match(r"(shared|mut)_slice_known", flat(f)):
+        at, (old, new) = place, ("", "")
+        while at is not None:
+            row = self.places[at]
+            old, new = row[2]
+            if old and flat(f) in (flat(old), flat(old) + "_lem"):
+                break
+            at = row[1]
+        if re.match(r"(shared|mut)_slice_known|slice_known", flat(f)):
             v = next((v for v, o in self.kinds if flat(o) == flat(f)), None)
             if v:
                 return None, ["c", "type_inv", v] + rest[1:]
         if f in ("args", "requires", "ranges"):
             own = self.names["pre"] if f == "requires" else None
             return None, ["c", f] + self.clause(own and own.get("fields"), rest[1:])
-        if old and flat(f) in (flat(old), flat(old) + "_lem"):
+        if at is not None:
             tail = rest[1:]
             if flat(old) == "match" and tail and re.fullmatch(r"\w+[a-z]\d+", tail[0]):
                 tail = ["is"] + tail[1:]
             if tail and tail[0] == "taken":
                 tail = ["true" if at.startswith("Then") or at.startswith("In") else "false"] + tail[1:]
+            if tail and tail[0] in ("new", "last") and row[3] in self.names["params"]:
+                i, more = 0, tail[1:]
+                while more and more[0] == "1":
+                    i, more = i + 1, more[1:]
+                if more and more[0] == "0":
+                    tail = ["new", self.names["params"][row[3]][i]] + more[1:]
             if tail and tail[0] in ("ensures", "requires"):
                 order = [q[0] for q in self.names["places"]]
                 known = self.names["clauses"][order.index(at)]
                 tail = [tail[0]] + self.clause(known and known.get("fields"), tail[1:])
             return None, ["c", new] + tail
-        self.said.append(f"{f} at {at} ({old})")
+        self.said.append(f"{f} from {place}")
         return None, ["c"] + rest
 
     def clause(self, fields, tail):

@@ -31,15 +31,15 @@ use Rattle.commit.specs.Stages.{applied_outcome, Given}
 
 -- no check fails where the number is 8
 record AllPass (c : Checks) : Type 0 where
-  ranges : c.ranges_2 ≡ true
+  ranges : c.ranges ≡ true
   tables : c.tables ≡ true
   order : c.order ≡ true
 
 all_pass : (c : Checks) → 8 ≤ fault_of c → AllPass c
 unfolding fault_of
-all_pass c h = go c.ranges_2 c.tables c.order c.sizes refl refl refl h
+all_pass c h = go c.ranges c.tables c.order c.sizes refl refl refl h
   where
-    go : (a b d e : Bool) → c.ranges_2 ≡ a → c.tables ≡ b → c.order ≡ d → 8 ≤ pick a (pick b (pick d (pick e 8 7) 6) 5) 4 → AllPass c
+    go : (a b d e : Bool) → c.ranges ≡ a → c.tables ≡ b → c.order ≡ d → 8 ≤ pick a (pick b (pick d (pick e 8 7) 6) 5) 4 → AllPass c
     go true true true e x y z h = record { ranges = x; tables = y; order = z }
     go true true false e x y z h = absurd (omega arith)
     go true false d e x y z h = absurd (omega arith)

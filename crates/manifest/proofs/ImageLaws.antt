@@ -45,7 +45,7 @@ one_check n false o a e = absurd (let z : ◌≡◌ {A = ℕ} 0 1 = cc in omega 
 all_checks_lem : {A : Type 0} (c : Checks) (o : Outcome A) (a : A) → checked c o ≡ answer a → o ≡ answer a
 all_checks_lem c o a e =
     one_check 7 c.sizes o a
-    (one_check 6 c.order _ a (one_check 5 c.tables _ a (one_check 4 c.ranges_2 _ a e)))
+    (one_check 6 c.order _ a (one_check 5 c.tables _ a (one_check 4 c.ranges _ a e)))
 
 was_read : (o : Outcome Image) (i : Image) → and_then o (λ j. checked (image_checks j) (answer j)) ≡ answer i → o ≡ answer i
 was_read (answer j) i e = all_checks_lem (image_checks j) (answer j) i e

@@ -107,7 +107,7 @@ pub ruleset range_exits = (range_not_read, asked_start, asked_end, range_fails, 
 -- an image that passes with a range passes check 5
 faults_pass : (c : Checks) → leb 8 (fault_of c) ≡ true → c.tables ≡ true
 unfolding fault_of
-faults_pass c h = go c.ranges_2 c.tables c.order c.sizes h
+faults_pass c h = go c.ranges c.tables c.order c.sizes h
   where
     go : (a b c d : Bool) → leb 8 (fault_of (checks a b c d)) ≡ true → b ≡ true
     go a true c d h = refl

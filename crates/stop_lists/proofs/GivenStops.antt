@@ -79,7 +79,7 @@ module _ {ns : List ℕ} (G : Given ns) where
   -- what follows the checks 4 to 7 is reached where 5 passes
   pub checked_stops : {A : Type 0} (c : Checks) {o : Outcome A} → (c.tables ≡ true → StopsIn ns o) → StopsIn ns (checked c o)
   checked_stops c s =
-      checks 4 c.ranges_2 G.four (λ _. checks 5 c.tables G.five (λ t. checks 6 c.order G.six (λ _. checks 7 c.sizes G.seven (λ _. s t))))
+      checks 4 c.ranges G.four (λ _. checks 5 c.tables G.five (λ t. checks 6 c.order G.six (λ _. checks 7 c.sizes G.seven (λ _. s t))))
 
   pub whole_image : (l : List ℕ) → StopsIn ns (whole image.read l)
   whole_image l = whole_stops G.reads.keys image (image_stops G.reads) l

@@ -33,7 +33,7 @@ use Rattle.subcompaction.proofs.KeysRead.{many_read, anchors_read, index_read, r
 -- checks that passed: 6 among them
 pub passed_order : {A : Type 0} (c : Checks) (o : Outcome A) (a : A) → checked c o ≡ answer a → (c.order ≡ true) × (o ≡ answer a)
 passed_order c o a e =
-    let p = tested 4 c.ranges_2 _ a e in
+    let p = tested 4 c.ranges _ a e in
     let q = tested 5 c.tables _ a p.1 in
     let r = tested 6 c.order _ a q.1 in
     (r.0, (tested 7 c.sizes o a r.1).1)

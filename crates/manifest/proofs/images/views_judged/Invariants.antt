@@ -1,0 +1,12 @@
+-- `manifest::images::views_judged` meets its contract.
+-- Assumes nothing.
+use Rattle.manifest.proofs.ImageExits.{views_exits, ViewsSeen}
+use Rattle.manifest.proofs.RangeExits.{both_bounds}
+use borrow.Author.Rules.{rules}
+use Rattle.manifest.proofs.images.views_judged.Given as goal
+
+abbrev pub invariant-loop-left : goal.invariant-loop-left
+invariant-loop-left l = ViewsSeen l.s l.from l.n l.left l.at l.fault l.before
+
+abbrev pub decreases-loop-left : goal.decreases-loop-left
+decreases-loop-left l = l.left

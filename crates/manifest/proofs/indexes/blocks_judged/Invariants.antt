@@ -1,0 +1,11 @@
+-- `manifest::blocks_judged` meets its contract.
+-- Assumes nothing.
+use Rattle.manifest.proofs.IndexExits.{blocks_exits, BlocksSeen}
+use borrow.Author.Rules.{rules}
+use Rattle.manifest.proofs.indexes.blocks_judged.Given as goal
+
+abbrev pub invariant-loop-left : goal.invariant-loop-left
+invariant-loop-left l = BlocksSeen l.s l.from l.n l.left l.at l.fault l.before
+
+abbrev pub decreases-loop-left : goal.decreases-loop-left
+decreases-loop-left l = l.left
