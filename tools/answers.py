@@ -179,6 +179,7 @@ def convert(crate, folder, names, report):
     with open(os.path.join(folder, "Proof.antt"), encoding="utf-8") as f:
         text = f.read()
     fn = Function(crate, rel, names)
+    text = re.sub(r"^(use [^\n]*\{)\n((?:[^}]*\n)*?)(\})$", lambda m: m[1] + " ".join(w.strip() for w in m[2].split("\n")).strip(" ,") + "}", text, flags=re.M)
     uses = [l for l in text.split("\n") if l.startswith("use ")]
     uses = [l for l in uses if not l.endswith(".Tie as tie") and ".Statement." not in l]
     head = []

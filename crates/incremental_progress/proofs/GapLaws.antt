@@ -173,8 +173,8 @@ module _ {I : Type 0} (from to : I → Cut) where
     outs_from : {c : Cut} {is : List I} {outs : List (List A)} → Ascends from to c is → Outs is outs → All (λ x. c ≼ start x) (flatten outs)
     unfolding flatten
     outs_from a no_outs = tt
-    outs_from (then h k a) (outs_of {os} {outs} f s r) =
-        All-append _ os (flatten outs) (All-map (λ x m. ≼_trans h m.0) os f) (All-map (λ x m. ≼_trans (≼_trans h k) m) (flatten outs) (outs_from a r))
+    outs_from {c = c} (then h k a) (outs_of {i = i} {is = is} {os = os} {outs = outs} f s r) =
+        All-append _ os (flatten outs) (All-map (λ x m. ≼_trans h m.0) os f) (All-map (λ x m. ≼_trans (≼_trans h k) m) (flatten outs) (outs_from {c = to i} {is = is} a r))
 
     by_from : {c : Cut} {is : List I} {outs : List (List A)} (ps : List (Placed A)) → Ascends from to c is → Outs is outs → All (InPlace c is) ps
         → All (λ x. c ≼ start x) (by_gap 0 outs ps)
@@ -184,7 +184,7 @@ module _ {I : Type 0} (from to : I → Cut) where
         All-append _ (in_gap 0 ps) (os ++ by_gap 1 outs ps)
         (All-first start _ ps (All-map (λ p m e. (falls_first e m).0) ps l))
         (All-append _ os (by_gap 1 outs ps) (All-map (λ x m. ≼_trans h m.0) os f)
-        (rw by_lower (All-map (λ x m. ≼_trans (≼_trans h k) m) (by_gap 0 outs (lower ps)) (by_from (lower ps) a r (lower_in_place c i is ps l)))))
+        (rw by_lower (All-map (λ x m. ≼_trans (≼_trans h k) m) (by_gap 0 outs (lower ps)) (by_from {c = to i} {is = is} (lower ps) a r (lower_in_place c i is ps l)))))
 
     -- those that start at a cut stand as they did
     at_by : {c : Cut} {is : List I} {outs : List (List A)} (ps : List (Placed A)) → Ascends from to c is → Outs is outs → All (InPlace c is) ps
@@ -197,7 +197,7 @@ module _ {I : Type 0} (from to : I → Cut) where
         let rest = map (λ p. p.item) (lower ps) in
         let after : All (λ x. to i ≼ start x) rest = items_from (lower ps) a low in
         rw (at_append cut_at_most start d (in_gap 0 ps) (os ++ by_gap 1 outs ps), at_append cut_at_most start d os (by_gap 1 outs ps), at_append cut_at_most start d os (flatten outs))
-        (rw (by_lower 0 outs ps, at_by (lower ps) a r low d)
+        (rw (by_lower 0 outs ps, at_by {c = to i} {is = is} (lower ps) a r low d)
         (elim (order (from i) d) [
           | inr m ↦
               let far : d ≺ to i = ≺-≼-trans m k in
@@ -224,7 +224,7 @@ module _ {I : Type 0} (from to : I → Cut) where
         let from_on = All-append (λ x. from i ≼ start x) os rest own (All-map (λ x m. ≼_trans k m) rest after) in
         rw (by_lower 0 outs ps)
         (Pairwise-append (λ x y. start x ≼ start y) (in_gap 0 ps) (os ++ rest) (sorted_first start ps s)
-        (Pairwise-append (λ x y. start x ≼ start y) os rest t (by_sorted (lower ps) a r low (lower_in_step start ps s))
+        (Pairwise-append (λ x y. start x ≼ start y) os rest t (by_sorted {c = to i} {is = is} (lower ps) a r low (lower_in_step start ps s))
         (All-map (λ x m. All-map (λ y n. ≼_trans (≺-≼ m.1) n) rest after) os f))
         (All-map (λ x m. All-map (λ y n. ≼_trans (≺-≼ m) n) (os ++ rest) from_on) (in_gap 0 ps)
         (All-first start (λ x. start x ≺ from i) ps (All-map (λ p m e. (falls_first e m).1) ps l))))

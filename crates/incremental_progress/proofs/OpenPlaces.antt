@@ -120,7 +120,7 @@ entries_long (e ∷ es) a = rw (length-append, entry_long e a.0, entries_long es
 places_long : (n : ℕ) (es : List Entry) → length (map is_drawn es) ≡ length (view_places n (map entry_view es))
 unfolding view_places
 places_long n [] = refl
-places_long n (e ∷ es) = ap suc (places_long _ es)
+places_long n (e ∷ es) = ap suc (places_long (n + length (view.write (entry_view e))) es)
 
 -- ---- runs
 those_append : (a b : List Bool) (m n : List ℕ) → length a ≡ length m → those (a ++ b) (m ++ n) ≡ those a m ++ those b n
@@ -174,14 +174,14 @@ entry_size_lem e {w} o f c = fitting_bytes.as_long (entry_pattern e) (view.write
 view_places_lem : (n : ℕ) (es : List Entry) {ws : List View} → All Full es → Each Fills (map marked es) ws → AllClosed ws → view_places n ws ≡ view_places n (map entry_view es)
 unfolding view_places
 view_places_lem n [] o no_more none_left = refl
-view_places_lem n (e ∷ es) o (and f fs) (one_more c cs) = rw (entry_size_lem e o.0 f c, view_places_lem _ es o.1 fs cs)
+view_places_lem n (e ∷ es) o (and f fs) (one_more c cs) = rw (entry_size_lem e o.0 f c, view_places_lem (n + length (view.write (entry_view e))) es o.1 fs cs)
 
 run_places_lem : (n : ℕ) (os : List OpenRun) {rs : Image} → All (λ o. All Full o.entries) os → Each FillsRun (map mark_run os) rs → ClosedImage rs → run_places n rs ≡ run_places n (undrawn os)
 unfolding run_places
 run_places_lem n [] a no_more no_runs_lem = refl
 run_places_lem n (o ∷ os) a (and {y = r} f fs) (one_run c cs) =
     let s : length (run.write r) ≡ length (run.write (undrawn_run o)) = fitting_bytes.as_long (run_pattern o) (run.write r) (fits_run o a.0 f c) ∙ run_long o a.0 in
-    rw (s, run_places_lem _ os a.1 fs cs, of_views f c)
+    rw (s, run_places_lem (n + length (run.write (undrawn_run o))) os a.1 fs cs, of_views f c)
   where
     of_views : {r : Run} → FillsRun (mark_run o) r → AllClosed r.views → view_places (n + 6) r.views ≡ view_places (n + 6) (map entry_view o.entries)
     of_views (same_id f) c = view_places_lem (n + 6) o.entries a.0 f c
@@ -263,7 +263,7 @@ alike_elsewhere (free f) k zero e =
     absurd (true≢false (rw (h, eq-eqb k k refl) at e))
 alike_elsewhere (free {p = p} f) k (suc n) e =
     let h : k + suc n ≡ suc k + n = omega arith in
-    alike_elsewhere f (suc k) n (no_other (eqb (suc k + n) k) (has (suc k + n) (open_from (suc k) p)) (rw h at e))
+    alike_elsewhere f (suc k) n (rw h at (no_other (eqb (k + suc n) k) (has (k + suc n) (open_from (suc k) p)) e))
 
 pub differ_in_drawn_bits : {first record' l m : List ℕ} {before : Image} {progress : Job} → Bytes first → Bytes record' → read_whole image.read first ≡ answer before → read_whole job.read record' ≡ answer progress
     → AlikeBut (image_pattern (commit_runs progress before)) l m → DifferInDrawnBits (commit_runs progress before) l m

@@ -77,4 +77,4 @@ later_mono {s} {t} d h =
 pub floors_mono : {s t : Cut} (is : List Span) (c : Cut) → s ≼ t → floors s is c ≼ floors t is c
 unfolding floors
 floors_mono [] c h = h
-floors_mono (i ∷ is) c h = floors_mono is c (later_mono (floor i c) h)
+floors_mono {s = s} {t = t} (i ∷ is) c h = floors_mono {s = later s (floor i c)} {t = later t (floor i c)} is c (later_mono (floor i c) h)

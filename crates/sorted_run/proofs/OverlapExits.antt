@@ -10,7 +10,7 @@ use lib.ListN.{length, drop}
 use lib.Dec.{T}
 use Rattle.base.specs.Outcome.{Outcome, answer, stop, and_then}
 use Rattle.comparable_range.specs.Range.{Range, intersect_sides, meets}
-use Rattle.format.specs.Got.{Got, got}
+use Rattle.format.specs.Got.{stop, Got, got}
 use Rattle.format.specs.Range.{bound_in}
 use Rattle.format.specs.declared.span.RangeSpan.{RangeSpan}
 use Rattle.records.specs.Form.{read_many}
@@ -43,6 +43,7 @@ views_long s r i = go (read_many view.read r.views (drop r.first s)) refl i.ther
   where
     go : (g : Got (List View)) → read_many view.read r.views (drop r.first s) ≡ g → T (is_got g) → length (values_of g) ≡ r.views
     go (got vs l) e t = read_many_length view.read r.views (drop r.first s) vs l e
+    go (stop _) e t = elim t [ ]
 
 last_at : (v : View) (vs : List View) → index_at (v ∷ vs) (length vs) ≡ some (last_view v vs)
 unfolding index_at

@@ -1,0 +1,12 @@
+-- `commit_ids::view_id_at` meets its contract.
+-- Assumes nothing.
+use Rattle.records.proofs.IdExits.{filled, Filled}
+use Prim.Native.Nat.{◌-◌}
+use borrow.Author.Rules.{rules}
+use Rattle.commit_ids.proofs.view_id_at.Given as goal
+
+abbrev pub invariant-loop-i : goal.invariant-loop-i
+invariant-loop-i l = Filled l.s l.at l.id l.i
+
+abbrev pub decreases-loop-i : goal.decreases-loop-i
+decreases-loop-i l = 16 - l.i

@@ -1,0 +1,26 @@
+-- `sst_view::places::view_given` meets its contract.
+-- Assumes nothing.
+use Rattle.sst_view.proofs.PlaceExits.{given_exits}
+use borrow.Author.Rules.{rules}
+use Rattle.sst_view.proofs.places.view_given.Goals as goal
+
+pub image_judged-requires : goal.image_judged-requires
+image_judged-requires c = search (rules, given_exits)
+
+pub enum_known-k : goal.enum_known-k
+enum_known-k c = search (rules, given_exits)
+
+pub enum_known-fault : goal.enum_known-fault
+enum_known-fault c = search (rules, given_exits)
+
+pub returns-then-fault-lt8 : goal.returns-then-fault-lt8
+returns-then-fault-lt8 c = search (rules, given_exits)
+
+pub view_in_image-requires : goal.view_in_image-requires
+view_in_image-requires c = search (rules, given_exits)
+
+pub returns-in-Stop : goal.returns-in-Stop
+returns-in-Stop c = search (rules, given_exits)
+
+pub returns-else-fault-lt8 : goal.returns-else-fault-lt8
+returns-else-fault-lt8 c = search (rules, given_exits)
