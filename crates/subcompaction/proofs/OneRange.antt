@@ -152,7 +152,7 @@ module _ (parts goal : ℕ) where
   one_key {l} {m} front p z e f o k =
       let q = subst Ordered e o in
       none_ordered l front z f o
-      (inr (subst (All (λ x. key_at_most z.key x.key ≡ true)) (sym e) (rw (← k) (at_most_self p.key, q.0))))
+      (inr (subst (All (λ x. key_at_most z.key x.key ≡ true)) (sym e) (subst (λ y. All (λ (x : Anchor). key_at_most y x.key ≡ true) (p ∷ m)) k (at_most_self p.key, q.0))))
 
 -- ---- those chosen
 record Divided (parts goal bytes : ℕ) : Type 0 where
