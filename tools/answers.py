@@ -129,6 +129,14 @@ class Function:
             known[m[1]] = at
             text = text[: m.start()] + text[m.end() :]
 
+        # a name for a contract's facts is written out
+        while True:
+            m = re.search(r"let (\w+) = (c(?:\.[\w-]+)*\.(?:requires|ensures)) in\s*", text)
+            if not m:
+                break
+            rest = text[m.end() :]
+            text = text[: m.start()] + re.sub(r"(?<![\w'.-])" + m[1] + r"(?![\w'-])", lambda _: m[2], rest)
+
         def one(m):
             if m[1] not in known:
                 return m[0]
@@ -161,6 +169,9 @@ def parts(term):
 
 def record_of(term, fields, report):
     """A goal of several clauses takes a record, no longer pairs."""
+    lets = re.match(r"(\s*(?:let .*? in\s+)+)(\(.*\))\s*$", term, re.S)
+    if lets and parts(lets[2]):
+        return lets[1] + record_of(lets[2], fields, report).strip()
     at, values = term, []
     while len(values) < len(fields) - 1:
         two = parts(at)

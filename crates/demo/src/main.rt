@@ -11,12 +11,12 @@ ghost use Rattle.demo.specs.Has.{Has, Missing};
 use base::Written;
 
 fn text(t: &[u8]) {
-    io::write_all(libc::STDOUT_FILENO, t);
+    io::write_all(1, t);
 }
 
 fn stop(n: u8) {
     text(b"stop ");
-    io::print_decimal(libc::STDOUT_FILENO, n as u64);
+    io::print_decimal(1, n as u64);
     text(b"\n");
 }
 
@@ -102,7 +102,7 @@ fn main() {
     let mut listing = [0u8; 1024];
     let mut job = [0u8; 512];
 
-    legend::write(libc::STDOUT_FILENO);
+    legend::write(1);
     let mut image = [0u8; 256];
     let length = build::image(&mut image);
     text(b"the image before the compaction:\n");

@@ -169,6 +169,7 @@ half_open_lem c (p ∷ ps) h =
     (record { start = same_start p.planned.start q.0; end = same_end p.planned.end q.1 }, half_open_lem (end_cut p.planned.end) ps k.1)
 
 in_left : {A : Type 0} {x : A} (xs ys : List A) → In x xs → In x (xs ++ ys)
+in_left [] ys i = elim i [ ]
 in_left (x ∷ xs) ys (here e) = here e
 in_left (x ∷ xs) ys (further i) = further (in_left xs ys i)
 

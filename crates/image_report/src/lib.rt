@@ -9,11 +9,11 @@ use bilqarush::{Checked, ViewRange};
 use comparable_range::Kind;
 
 pub fn text(t: &[u8]) {
-    io::write_all(libc::STDOUT_FILENO, t);
+    io::write_all(1, t);
 }
 
 pub fn decimal(n: usize) {
-    io::print_decimal(libc::STDOUT_FILENO, n as u64);
+    io::print_decimal(1, n as u64);
 }
 
 fn stop(n: u8) {

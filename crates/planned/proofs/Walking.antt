@@ -172,7 +172,7 @@ module _ {s keys bytes order : List ℕ} {n parts goal : ℕ} {marks₀ marks : 
     rest_of = anchors_from s keys bytes order n (i + 1)
 
     pub walk_row : i < length order
-    walk_row = omega (arith, p.in_order)
+    walk_row = omega (arith, p.in_order_lem)
 
     below : row < n
     below = row_below s keys order n i p.ordered h
@@ -187,7 +187,7 @@ module _ {s keys bytes order : List ℕ} {n parts goal : ℕ} {marks₀ marks : 
     walk_there = (p.rows.row row below).there
 
     next_is : anchors_from s keys bytes order n i ≡ anchor_at s keys bytes row ∷ rest_of
-    next_is = rw (slice-cons i n order 0 h p.in_order, add-one)
+    next_is = rw (slice-cons i n order 0 h p.in_order_lem, add-one)
 
     next_sum : reached + (get_or bytes row 0 + total rest_of) ≡ total (anchors_in s keys bytes n)
     unfolding total
@@ -231,7 +231,7 @@ module _ {s keys bytes order : List ℕ} {n parts goal : ℕ} {marks₀ marks : 
           record {
             rows = p.rows;
             in_bytes = p.in_bytes;
-            in_order_lem = p.in_order;
+            in_order_lem = p.in_order_lem;
             ordered = p.ordered;
             upto = omega arith;
             wanted = omega (arith, more);
@@ -253,7 +253,7 @@ module _ {s keys bytes order : List ℕ} {n parts goal : ℕ} {marks₀ marks : 
         record {
           rows = p.rows;
           in_bytes = p.in_bytes;
-          in_order_lem = p.in_order;
+          in_order_lem = p.in_order_lem;
           ordered = p.ordered;
           upto = omega arith;
           wanted = p.wanted;

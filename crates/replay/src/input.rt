@@ -50,5 +50,5 @@ pub fn read_front(body: &mut [u8], length: usize) -> usize {
     if body.len() < length {
         return 0;
     }
-    io::read_full(libc::STDIN_FILENO, &mut body[..length])
+    io::read_full(0, &mut body[..length])
 }

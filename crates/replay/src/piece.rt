@@ -43,7 +43,7 @@ pub fn read(buffer: &mut [u8], held: usize, kept: usize, length: usize) -> Piece
         return Piece::Ended(HEAD);
     }
     let end = kept + length;
-    let got = io::read_full(libc::STDIN_FILENO, &mut buffer[kept..end]);
+    let got = io::read_full(0, &mut buffer[kept..end]);
     if got < length {
         return Piece::Ended(HEAD + got);
     }

@@ -28,17 +28,17 @@ pub fn tally(counts: &mut [u64], i: usize, agreed: bool)
 }
 
 pub fn print_number(name: &[u8], n: u64) {
-    io::write_all(libc::STDOUT_FILENO, name);
-    io::write_all(libc::STDOUT_FILENO, b" ");
-    io::print_decimal(libc::STDOUT_FILENO, n);
-    io::write_all(libc::STDOUT_FILENO, b"\n");
+    io::write_all(1, name);
+    io::write_all(1, b" ");
+    io::print_decimal(1, n);
+    io::write_all(1, b"\n");
 }
 
 pub fn print_call(name: &[u8], counts: &[u64], i: usize)
     requires { i < 256 }
 {
-    io::write_all(libc::STDOUT_FILENO, name);
-    io::write_all(libc::STDOUT_FILENO, b" ");
-    io::print_decimal(libc::STDOUT_FILENO, count_of(counts, counts.len() / 2 + i));
+    io::write_all(1, name);
+    io::write_all(1, b" ");
+    io::print_decimal(1, count_of(counts, counts.len() / 2 + i));
     print_number(b" of", count_of(counts, i));
 }

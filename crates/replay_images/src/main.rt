@@ -95,7 +95,7 @@ fn replay_record(
 
 fn replay_next(image: &mut [u8], held: usize, answer: &mut [u8], out: &mut [u8]) -> Turn {
     let mut head = [0u8; 20];
-    let got = io::read_full(libc::STDIN_FILENO, &mut head);
+    let got = io::read_full(0, &mut head);
     if got < HEAD {
         return Turn::Ended(got);
     }
@@ -130,8 +130,8 @@ fn replay_all(image: &mut [u8], answer: &mut [u8], out: &mut [u8], counts: &mut 
 }
 
 fn print_stop(counts: &[u64], stop: u8) {
-    io::write_all(libc::STDOUT_FILENO, b"stop ");
-    io::print_decimal(libc::STDOUT_FILENO, stop as u64);
+    io::write_all(1, b"stop ");
+    io::print_decimal(1, stop as u64);
     tally::print_call(b":", counts, stop_slot(stop));
 }
 

@@ -114,7 +114,7 @@ fn replay_record(f: Fields, buffer: &mut [u8], held: usize, body: &mut [u8]) -> 
 
 fn replay_next(buffer: &mut [u8], held: usize, body: &mut [u8]) -> Turn {
     let mut head = [0u8; 20];
-    let got = io::read_full(libc::STDIN_FILENO, &mut head);
+    let got = io::read_full(0, &mut head);
     if got < HEAD {
         return Turn::Ended(got);
     }
@@ -149,8 +149,8 @@ fn replay_all(buffer: &mut [u8], body: &mut [u8], counts: &mut [u64]) -> usize {
 }
 
 fn print_stop(counts: &[u64], stop: u8) {
-    io::write_all(libc::STDOUT_FILENO, b"stop ");
-    io::print_decimal(libc::STDOUT_FILENO, stop as u64);
+    io::write_all(1, b"stop ");
+    io::print_decimal(1, stop as u64);
     tally::print_call(b":", counts, stop_slot(stop));
 }
 

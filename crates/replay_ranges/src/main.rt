@@ -74,7 +74,7 @@ fn replay_body(head: &[u8], body: &mut [u8], out: &mut [u8]) -> Turn {
 
 fn replay_next(body: &mut [u8], out: &mut [u8]) -> Turn {
     let mut head = [0u8; 12];
-    let got = io::read_full(libc::STDIN_FILENO, &mut head);
+    let got = io::read_full(0, &mut head);
     if got < HEAD {
         return Turn::Ended(got);
     }

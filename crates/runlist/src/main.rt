@@ -33,7 +33,7 @@ fn answer(input: &[u8], out: &mut [u8]) -> usize
     match bilqarush::list(input, out) {
         Written::Stop(n) => put_stop(out, n),
         Written::Wrote(n) => {
-            legend::write(libc::STDERR_FILENO);
+            legend::write(2);
             n
         }
     }
@@ -46,7 +46,7 @@ fn main() {
     let mut out = [0u8; 131104];
     // This reads on after a short read, to the end of the input or of the buffer. A read that fails counts as the end of
     // the input: no front of an image but the whole is an image, so no image is listed in part.
-    let got = io::read_full(libc::STDIN_FILENO, &mut input);
+    let got = io::read_full(0, &mut input);
     let length = answer(&input[..got], &mut out);
-    io::write_all(libc::STDOUT_FILENO, &out[..length]);
+    io::write_all(1, &out[..length]);
 }

@@ -1,0 +1,35 @@
+-- `commit_write::rows::put_rows` meets its contract.
+-- Assumes nothing.
+use Rattle.commit_write.proofs.Writing.{rows_exits}
+use Prim.Native.Nat.{◌-◌}
+use Rattle.commit_write.specs.Rows.{count_from}
+use Rattle.commit_write.proofs.Writing.{Writing}
+use borrow.Author.Rules.{rules}
+use Rattle.commit_write.proofs.rows.put_rows.Goals as goal
+
+pub loop-i-init : goal.loop-i-init
+loop-i-init c = search (rules, rows_exits)
+
+pub overflow_add-from : goal.overflow_add-from
+overflow_add-from c = search (rules, rows_exits)
+
+pub row_at-row-requires : goal.row_at-row-requires
+row_at-row-requires c = search (rules, rows_exits)
+
+pub put_view-past-requires : goal.put_view-past-requires
+put_view-past-requires c = search (rules, rows_exits)
+
+pub overflow_add-i : goal.overflow_add-i
+overflow_add-i c = search (rules, rows_exits)
+
+pub loop-i-smaller : goal.loop-i-smaller
+loop-i-smaller c = search (rules, rows_exits)
+
+pub loop-i-preserved : goal.loop-i-preserved
+loop-i-preserved c = search (rules, rows_exits)
+
+pub shape_of-out : goal.shape_of-out
+shape_of-out c = search (rules, rows_exits)
+
+pub returns : goal.returns
+returns c = search (rules, rows_exits)
