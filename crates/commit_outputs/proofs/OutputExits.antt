@@ -35,7 +35,7 @@ use Rattle.commit_entries.specs.Planned.{RowSmall, Added, AddedCut, WholeRow, Cu
 use Rattle.commit_entries.specs.declared.Plan.{Plan}
 use Rattle.commit_entries.proofs.Planning.{planned_none, planned_whole, planned_cut}
 use Rattle.commit_entries.proofs.Standing.{table_stands, table_id, table_id_long, table_id_within}
-use Rattle.commit_entries.proofs.RowBytes.{cut_view_bytes, cut_entry_bytes, identity_bytes, new_id_bytes_lem, range_length, cut_length, whole_length}
+use Rattle.commit_entries.proofs.RowBytes.{cut_view_bytes, cut_entry_bytes, identity_bytes, new_id_bytes_lem, range_length_lem, cut_length, whole_length}
 use Rattle.commit_outputs.specs.Outputs.{IntervalHeld, entries_in, published_as, output_row, entries_as, PlannedIn}
 use Rattle.commit_outputs.specs.declared.output.Published.{Published}
 use Rattle.commit_outputs.specs.declared.output.Published.TheVariants.{Left, Whole, Cut}
@@ -171,7 +171,7 @@ module _ (s : List ℕ) (at : ℕ) (t : TableSpan) (small : length s ≤ 262144)
                 rw (y.are, new_id_bytes_lem s at ids ten _ (table_id s at b l f), i.range)
                 (sym (cut_view_bytes (identity (table_in s t)) (to_range (interval_in s h.start h.end)) (take 10 (drop ten ids))));
             long =
-                let r : length (write_range (to_range (interval_in s h.start h.end))) ≡ _ = ap (λ q. length (write_range q)) (sym i.range) ∙ range_length s s h.start h.end i.start i.end in
+                let r : length (write_range (to_range (interval_in s h.start h.end))) ≡ _ = ap (λ q. length (write_range q)) (sym i.range) ∙ range_length_lem s s h.start h.end i.start i.end in
                 rw (cut_entry_bytes, cut_length) (omega (arith, r, y.ends, table_id_long s at b l f));
             bucket = refl;
           }

@@ -27,7 +27,7 @@ use Rattle.commit_gaps.proofs.Uses.{whole_entry, cut_entry}
 use Rattle.commit_entries.specs.Planned.{RowSmall, Added, AddedCut, PlannedMore, WholeRow, CutRow}
 use Rattle.commit_entries.specs.declared.Plan.{Plan}
 use Rattle.commit_entries.proofs.Planning.{planned_whole, planned_cut}
-use Rattle.commit_entries.proofs.RowBytes.{cut_view_bytes, cut_entry_bytes, new_id_bytes_lem, range_length, cut_length}
+use Rattle.commit_entries.proofs.RowBytes.{cut_view_bytes, cut_entry_bytes, new_id_bytes_lem, range_length_lem, cut_length}
 use Rattle.commit_plan.specs.Held.{view_at, ViewReady}
 use Rattle.commit_plan.specs.Views.{RangeSmall, gap_bucket, PlannedPiece}
 use Rattle.commit_plan.specs.declared.held.ViewHeld.{ViewHeld}
@@ -128,7 +128,7 @@ module _ (s : List ℕ) (h : ViewHeld) (y : ViewReady s h) (gap : ℕ) where
           long =
               let r : length (write_range (supplied (effective v) g a b)) ≡ _
               = ap (λ q. length (write_range q)) (sym range_is)
-              ∙ range_length (of a s job) (of b s job) (of a h.range.start bounds.start) (of b h.range.end bounds.end) start_inside end_inside in
+              ∙ range_length_lem (of a s job) (of b s job) (of a h.range.start bounds.start) (of b h.range.end bounds.end) start_inside end_inside in
               rw (cut_entry_bytes, cut_length) (omega (arith, r, y.held.table_long, y.held.id_long));
           bucket = refl;
         }

@@ -21,7 +21,7 @@ use Rattle.commit_write.specs.Rows.{row_in, count_from, view_rows, RowThere, Row
 use Rattle.commit_write.specs.Runs.{run_bytes, runs_bytes, new_image_bytes, runs_in, planned, all_rows, planned_image, Bucketed, RunFits, RunsFit, Writable, RunWritable}
 use Rattle.commit_write.specs.declared.runs.Counts.{Counts}
 use Rattle.range_write.proofs.Pieces.{put_length, put_same, put_none, first_room, second_room, both_put}
-use Rattle.commit_write.proofs.Counts.{count_append, count_all, rows_numbered, rows_take, rows_skip}
+use Rattle.commit_write.proofs.Counting.{count_append, count_all, rows_numbered, rows_take, rows_skip}
 
 -- ---- a run, and those after it
 drop_map : {A B : Type 0} (f : A → B) (k : ℕ) (xs : List A) → drop k (map f xs) ≡ map f (drop k xs)

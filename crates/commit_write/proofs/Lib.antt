@@ -1,5 +1,5 @@
 pub mod ViewExits
-pub mod Counts
+pub mod Counting
 pub mod Writing
 pub mod Tally
 pub mod Summing

@@ -22,7 +22,7 @@ use Rattle.commit_write.specs.BucketLaws.{by_all}
 use Rattle.commit_write.specs.Runs.{head_bytes, source_bytes, destination_bytes, run_bytes, Bucketed, Copied, DestinationFits, RunWritable}
 use Rattle.commit_write.specs.declared.runs.Reached.{Reached}
 use Rattle.range_write.proofs.Pieces.{put_length, put_same, same_room, same_length, first_room, second_room, both_put}
-use Rattle.commit_write.proofs.Counts.{rows_length}
+use Rattle.commit_write.proofs.Counting.{rows_length}
 use Rattle.commit_write.proofs.Placing.{order_long, chosen_bytes, chosen_front}
 
 -- ---- put_head

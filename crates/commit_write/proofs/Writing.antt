@@ -16,7 +16,7 @@ use Rattle.commit_rows.specs.declared.rows.Row.{Row}
 use Rattle.range_write.specs.Put.{Put}
 use Rattle.commit_write.specs.Rows.{row_in, count_from, view_rows, view_bytes, numbered_bytes, RowThere, RowsThere}
 use Rattle.range_write.proofs.Pieces.{put_length, put_none, put_same, second_room, both_put}
-use Rattle.commit_write.proofs.Counts.{length_count, count_at, all_at, take_more}
+use Rattle.commit_write.proofs.Counting.{length_count, count_at, all_at, take_more}
 
 -- the first i of the rows with the numbers ks are put at `to` of d
 pub record Writing (image job ids t ks d : List ℕ) (to : ℕ) (out : List ℕ) (i past : ℕ) : Type 0 where

@@ -107,9 +107,9 @@ some : (left : ℕ) → (left ≡ 0 → ⊥) → 0 < left
 some zero h = absurd (h refl)
 some (suc n) h = omega arith
 
-pub data_end : (s : List ℕ) (at left data_end : ℕ) → left ≡ 0 → data_end ≡ beginning data_end (values_of (read_many block.read left (drop at s)))
+pub data_end_lem : (s : List ℕ) (at left data_end : ℕ) → left ≡ 0 → data_end ≡ beginning data_end (values_of (read_many block.read left (drop at s)))
 unfolding read_many
-data_end s at left data_end e = rw e
+data_end_lem s at left data_end e = rw e
 
 module _ (s : List ℕ) (at left : ℕ) (h : left ≡ 0 → ⊥) (t : T (is_got (read_many block.read left (drop at s)))) where
   here : FirstOf block.read left (drop at s)
@@ -122,7 +122,7 @@ module _ (s : List ℕ) (at left : ℕ) (h : left ≡ 0 → ⊥) (t : T (is_got 
   next_offset data_end {o} e =
       rw here.all (sym (offset_of (drop at s) here.value here.next (drop (at + 8) s) o here.one e))
 
-pub ruleset beginning_exits = (data_end, offset_there, next_offset)
+pub ruleset beginning_exits = (data_end_lem, offset_there, next_offset)
 
 -- ---- group_there
 -- the n values at the front of some that are there, and the others
