@@ -1,8 +1,6 @@
 pub mod Checks
 pub mod Pairs
 pub mod PointPlace
-pub mod PartSteps
-pub mod PartWalk
 pub mod Prefixes
 pub mod Answered
 pub mod ImageExits

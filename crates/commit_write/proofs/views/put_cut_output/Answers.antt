@@ -20,7 +20,7 @@ put_part-flag-requires c =
 pub put_visible-requires : goal.put_visible-requires
 put_visible-requires c =
     let i = c.published_id-old.ensures in
-    (search (rules, cut_output_exits), (search (rules, cut_output_exits), cut_output_range_room c.args.image.now c.args.job.now c.args.ids.now c.args.r c.requires.fact_1 c.requires.fact_2 i c.args.out.now c.args.to c.requires.fact_3 c.put_new_id-table.ensures c.put_part-flag.ensures))
+    record { bound_inside_1 = search (rules, cut_output_exits); bound_inside_2 = search (rules, cut_output_exits); r_in_bounds = cut_output_range_room c.args.image.now c.args.job.now c.args.ids.now c.args.r c.requires.fact_1 c.requires.fact_2 i c.args.out.now c.args.to c.requires.fact_3 c.put_new_id-table.ensures c.put_part-flag.ensures }
 
 pub shape_of-out : goal.shape_of-out
 shape_of-out c = search (rules, cut_output_exits)

@@ -1,0 +1,12 @@
+-- `commit_plan::views::plan_view` meets its contract.
+-- Assumes nothing.
+use Rattle.commit_plan.proofs.ViewExits.{ViewSeen, view_exits}
+use Prim.Native.Nat.{◌-◌}
+use borrow.Author.Rules.{rules}
+use Rattle.commit_plan.proofs.views.plan_view.Given as goal
+
+abbrev pub invariant-loop-g : goal.invariant-loop-g
+invariant-loop-g l = ViewSeen l.image l.job l.ids l.gaps l.m l.h l.initial.plan l.initial.rows l.g l.plan l.rows
+
+abbrev pub decreases-loop-g : goal.decreases-loop-g
+decreases-loop-g l = l.m - l.g
