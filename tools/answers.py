@@ -29,7 +29,7 @@ def groups(text):
         if line.startswith("--"):
             lead.append(line)
             continue
-        if not line.startswith(" "):
+        if not line.startswith((" ", ")", "}", "]")):
             m = re.match(r"(?:abbrev |pub |unfoldable |record |data |ruleset |module )*([^\s(){}:]+)", line)
             name = m[1]
             if line.startswith("unfolding") and out:
@@ -152,7 +152,7 @@ class Function:
 
 def parts(term):
     """The two sides of a pair (a, b), or None."""
-    t = term.strip()
+    t = re.sub(r",\s*\)$", ")", term.strip())
     if not (t.startswith("(") and t.endswith(")")):
         return None
     deep, cuts = 0, []

@@ -26,13 +26,7 @@ pub returns-then-k-ne8 : goal.returns-then-k-ne8
 returns-then-k-ne8 c = search (rules, plan_exits)
 
 pub planned_few-requires : goal.planned_few-requires
-planned_few-requires c = (
-  rows_there _ _ c.requires.parts_bound_2 c.runs_sampled.ensures (search rules) c.stop_after-k.ensures (search rules) c.requires.rows_enough_1,
-  (
-    search (rules, bytes_inside, c.requires),
-    (search (rules, plan_exits), (total_of_rows _ _ c.requires.parts_bound_2 c.runs_sampled.ensures (search rules) c.stop_after-k.ensures (search rules) c.requires.rows_enough_1, (search (rules, rows_total_fits, c.requires), search (rules, c.requires)))),
-  ),
-)
+planned_few-requires c = record { rows_1 = rows_there _ _ c.requires.parts_bound_2 c.runs_sampled.ensures (search rules) c.stop_after-k.ensures (search rules) c.requires.rows_enough_1; rows_2 = search (rules, bytes_inside, c.requires); rows_3 = search (rules, plan_exits); total_value_1 = total_of_rows _ _ c.requires.parts_bound_2 c.runs_sampled.ensures (search rules) c.stop_after-k.ensures (search rules) c.requires.rows_enough_1; total_value_2 = search (rules, rows_total_fits, c.requires); total_value_3 = search (rules, c.requires) }
 
 pub shape_of-keys-then-kept-le64 : goal.shape_of-keys-then-kept-le64
 shape_of-keys-then-kept-le64 c = search (rules, plan_exits)
@@ -47,13 +41,7 @@ pub returns-then-kept-le64 : goal.returns-then-kept-le64
 returns-then-kept-le64 c = record { value = search (rules, planned_told, c.requires); out_after = search (rules, planned_written, c.requires) }
 
 pub planned_many-requires : goal.planned_many-requires
-planned_many-requires c = (
-  rows_there _ _ c.requires.parts_bound_2 c.runs_sampled.ensures (search rules) c.stop_after-k.ensures (search rules) c.requires.rows_enough_1,
-  (
-    search (rules, bytes_inside, c.requires),
-    (search (rules, rows_most), (total_of_rows _ _ c.requires.parts_bound_2 c.runs_sampled.ensures (search rules) c.stop_after-k.ensures (search rules) c.requires.rows_enough_1, (search (rules, rows_total_fits, c.requires), search (rules, c.requires)))),
-  ),
-)
+planned_many-requires c = record { rows_1 = rows_there _ _ c.requires.parts_bound_2 c.runs_sampled.ensures (search rules) c.stop_after-k.ensures (search rules) c.requires.rows_enough_1; rows_2 = search (rules, bytes_inside, c.requires); rows_3 = search (rules, rows_most); total_value_1 = total_of_rows _ _ c.requires.parts_bound_2 c.runs_sampled.ensures (search rules) c.stop_after-k.ensures (search rules) c.requires.rows_enough_1; total_value_2 = search (rules, rows_total_fits, c.requires); total_value_3 = search (rules, c.requires) }
 
 pub shape_of-keys-in-Stop : goal.shape_of-keys-in-Stop
 shape_of-keys-in-Stop c = search (rules, plan_exits)
