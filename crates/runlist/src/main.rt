@@ -1,5 +1,5 @@
 // Reads an image from standard input and writes its listing, or `stop N` for an image that is refused. Document 01,
-// program `runlist`. A listing is all that goes to standard output; how to read it is said on standard error.
+// program `runlist`.
 #![tactic(auto)]
 
 ghost use Rattle.std.specs.Prelude.{◌≤◌, ◌≡◌, length};
@@ -22,8 +22,7 @@ fn put_stop(out: &mut [u8], n: u8) -> usize
     end + 1
 }
 
-// What the program writes for an input, at the front of a buffer. Answers its length. Where it is a listing, standard
-// error gets the legend.
+// What the program writes for an input, at the front of a buffer. Answers its length.
 fn answer(input: &[u8], out: &mut [u8]) -> usize
     requires { length out.old ≡ 131104 }
     ensures value { result ≡ length (runlist_text input.now) }
@@ -32,10 +31,7 @@ fn answer(input: &[u8], out: &mut [u8]) -> usize
 {
     match bilqarush::list(input, out) {
         Written::Stop(n) => put_stop(out, n),
-        Written::Wrote(n) => {
-            legend::write(2);
-            n
-        }
+        Written::Wrote(n) => n,
     }
 }
 

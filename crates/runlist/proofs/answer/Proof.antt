@@ -18,9 +18,6 @@ put-stop-requires c κs = search rules
 enum-known-n-2 : tie.Need-enum-known-n-2
 enum-known-n-2 c = search rules
 
-write-requires : tie.Need-write-requires
-write-requires c κs = search rules
-
 same_length : tie.Need-same-length
 same_length c = search rules
 
@@ -36,9 +33,9 @@ same-length-2 c = search rules
 
 returns-2 : tie.Need-returns-2
 returns-2 c =
-    let b : Bytes c.before.before.before.before.before.before.before.before.before.before.args.input.now = record { below = λ k. (c.before.before.before.before.before.before.before.before.before.shared-slice-known.given k).fits } in
-    let l = c.before.before.before.before.before.before.list.ensures in
-    listed _ _ b c.before.before.before.before.before.before.before.before.before.before.requires l.0 l.1 (search rules)
+    let b : Bytes c.before.before.before.before.before.before.before.before.before.args.input.now = record { below = λ k. (c.before.before.before.before.before.before.before.before.shared-slice-known.given k).fits } in
+    let l = c.before.before.before.before.before.list.ensures in
+    listed _ _ b c.before.before.before.before.before.before.before.before.before.requires l.0 l.1 (search rules)
 
 pub answer-spec : {M : Type 1} → statement M
 answer-spec =
@@ -48,7 +45,6 @@ answer-spec =
     enum-known-n
     put-stop-requires
     enum-known-n-2
-    write-requires
     same_length
     returns
     same-length-2
