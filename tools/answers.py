@@ -84,6 +84,11 @@ class Function:
             return None, ["c", f] + self.clause(own and own.get("fields"), rest[1:])
         if at is not None:
             tail = rest[1:]
+            order = [q[0] for q in self.names["places"]]
+            arm = self.names["arms"][order.index(at)]
+            for new_field, label, path in arm[2] if arm else []:
+                if path and flat(label) == flat(f) and tail[: len(path)] == path:
+                    return None, ["c", arm[0], new_field] + tail[len(path) :]
             if flat(old) == "match" and tail and re.fullmatch(r"\w+[a-z]\d+", tail[0]):
                 tail = ["is"] + tail[1:]
             if tail and tail[0] == "taken":

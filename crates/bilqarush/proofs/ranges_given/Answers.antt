@@ -30,7 +30,7 @@ passes-requires-then-passes c = search (rules, pair_exits)
 
 pub returns-then-passes-2 : goal.returns-then-passes-2
 returns-then-passes-2 c =
-    both_pass c.range_whole.ensures c.range_whole-in-At.ensures c.s-1.given.1 c.t-1.given.1 c.passes.ensures c.if-passes.true c.passes-then-passes.ensures c.if-passes-2.true
+    both_pass c.range_whole.ensures c.range_whole-in-At.ensures c.in-At.is c.in-At-range_whole.is c.passes.ensures c.if-passes.true c.passes-then-passes.ensures c.if-passes-2.true
 
 pub returns-then-passes : goal.returns-then-passes
 returns-then-passes c = search (rules, pair_exits)
