@@ -2,7 +2,7 @@
 -- slot of the caller's, which a stop leaves as it was.
 use Rattle.std.specs.Prelude.{ℕ, Bool, true, false, List, ◌≡◌, length}
 use Rattle.std.proofs.Math.Option.{Option, none, some}
-use Rattle.std.specs.Borrow.{Bor}
+use Rattle.std.specs.Borrow.{MutBor}
 use denote.Triple.Both.{Both}
 use Rattle.base.specs.Outcome.{Outcome, stop, answer, lent}
 use Rattle.base.specs.declared.Written.{Written}
@@ -17,7 +17,7 @@ pub record Held (A : Type 0) : Type 0 where
 abbrev pub from_to : {A : Type 0} → A → A → Held A
 from_to a b = record { before = a; after = b }
 
-abbrev pub held : {A : Type 0} → Both (Bor A) (Bor A) → Held A
+abbrev pub held : {A : Type 0} → Both (MutBor A) (MutBor A) → Held A
 held x = from_to x.entry.now x.exit.now
 
 -- what a slot holds afterwards

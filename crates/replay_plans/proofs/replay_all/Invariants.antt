@@ -1,0 +1,14 @@
+-- `replay_plans::replay_all` is safe and ends: the buffers keep their lengths, and the measure is the count that is left.
+-- Assumes nothing.
+use Rattle.replay.proofs.Parts.{lengths}
+use mathlib.Core.Path.{◌≡◌}
+use lib.ListN.{length}
+use borrow.Author.Rules.{rules}
+use Rattle.replay_plans.proofs.replay_all.Given as goal
+
+abbrev pub invariant-loop-left : goal.invariant-loop-left
+invariant-loop-left l =
+    (length l.first ≡ length l.initial.first) × (length l.second ≡ length l.initial.second) × (length l.answer ≡ length l.initial.answer) × (length l.out ≡ length l.initial.out) × (length l.counts ≡ length l.initial.counts)
+
+abbrev pub decreases-loop-left : goal.decreases-loop-left
+decreases-loop-left l = l.left
