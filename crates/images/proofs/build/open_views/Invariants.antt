@@ -1,0 +1,13 @@
+-- `images::open_views` is safe and ends: the buffer keeps its length, and the measure is the count that is left.
+-- Assumes nothing.
+use Prim.Native.Nat.{◌-◌}
+use mathlib.Core.Path.{◌≡◌}
+use lib.ListN.{length}
+use borrow.Author.Rules.{rules}
+use Rattle.images.proofs.build.open_views.Given as goal
+
+abbrev pub invariant-loop-id : goal.invariant-loop-id
+invariant-loop-id l = length l.image ≡ length l.initial.image
+
+abbrev pub decreases-loop-id : goal.decreases-loop-id
+decreases-loop-id l = l.count - l.id
