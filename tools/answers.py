@@ -207,6 +207,8 @@ def convert(crate, folder, names, report):
     module = rel.replace("/", ".")
     inv, ans, own = [], [], []
     for name, lead, lines in decls:
+        if len(lines) > 1 and lines[0].endswith(" :"):  # joined heads
+            lines = [lines[0] + " " + lines[1].strip()] + lines[2:]
         body = "\n".join(lines).rstrip()
         m = re.search(r"tie\.(invariant|decreases)-([\w-]+)", lines[0])
         n = re.search(r"tie\.Need-([\w₀-₉'-]+)", lines[0])

@@ -52,11 +52,11 @@ b = 98 ∷ []
 abbrev full : Part
 full = record { planned = record { start = unbounded; end = excluded b }; completed = true; outputs = copies 1024 (point []) }
 
-abbrev one_more : Part
-one_more = record { planned = record { start = included b; end = unbounded }; completed = true; outputs = point b ∷ [] }
+abbrev one_more_part : Part
+one_more_part = record { planned = record { start = included b; end = unbounded }; completed = true; outputs = point b ∷ [] }
 
 abbrev pub crowd : Job
-crowd = record { destination = 7; sources = 7 ∷ []; parts = full ∷ one_more ∷ [] }
+crowd = record { destination = 7; sources = 7 ∷ []; parts = full ∷ one_more_part ∷ [] }
 
 abbrev pub bare : Image
 bare = record { id = 7; views = [] } ∷ []
@@ -102,7 +102,7 @@ crowd_within =
                 first = record { start = tt; end = omega arith };
                 second = record { first = omega arith; second = copies_within (point []) (point_within [] (omega arith)) 1024 };
               })
-              (one_more {a = one_more} (record {
+              (one_more {a = one_more_part} (record {
                 first = record { start = omega arith; end = tt };
                 second = record { first = omega arith; second = one_more (point_within b (omega arith)) none_left };
               })

@@ -1,0 +1,67 @@
+-- `replay_lookups::replay_all` is safe and ends: the buffers keep their lengths, and the measure is the count that is left.
+-- Assumes nothing.
+use Rattle.replay.proofs.Parts.{lengths}
+use mathlib.Core.Path.{◌≡◌}
+use lib.ListN.{length}
+use borrow.Author.Rules.{rules}
+use Rattle.replay_lookups.proofs.replay_all.Goals as goal
+
+pub loop-left-init : goal.loop-left-init
+loop-left-init c = search (rules, lengths)
+
+pub replay_next-requires : goal.replay_next-requires
+replay_next-requires c = search (rules, lengths)
+
+pub enum_known-call : goal.enum_known-call
+enum_known-call c = search (rules, lengths)
+
+pub count-requires : goal.count-requires
+count-requires c = search (rules, lengths)
+
+pub overflow_sub-left : goal.overflow_sub-left
+overflow_sub-left c = search (rules, lengths)
+
+pub loop-left-smaller-in-Called : goal.loop-left-smaller-in-Called
+loop-left-smaller-in-Called c = search (rules, lengths)
+
+pub loop-left-preserved-in-Called : goal.loop-left-preserved-in-Called
+loop-left-preserved-in-Called c = search (rules, lengths)
+
+pub enum_known-length : goal.enum_known-length
+enum_known-length c = search (rules, lengths)
+
+pub overflow_sub-left-in-Held : goal.overflow_sub-left-in-Held
+overflow_sub-left-in-Held c = search (rules, lengths)
+
+pub loop-left-smaller : goal.loop-left-smaller
+loop-left-smaller c = search (rules, lengths)
+
+pub loop-left-preserved : goal.loop-left-preserved
+loop-left-preserved c = search (rules, lengths)
+
+pub enum_known-n : goal.enum_known-n
+enum_known-n c = search (rules, lengths)
+
+pub shape_of-buffer-in-Ended : goal.shape_of-buffer-in-Ended
+shape_of-buffer-in-Ended c = search (rules, lengths)
+
+pub shape_of-body-in-Ended : goal.shape_of-body-in-Ended
+shape_of-body-in-Ended c = search (rules, lengths)
+
+pub shape_of-counts-in-Ended : goal.shape_of-counts-in-Ended
+shape_of-counts-in-Ended c = search (rules, lengths)
+
+pub returns-in-Ended : goal.returns-in-Ended
+returns-in-Ended c = search (rules, lengths)
+
+pub shape_of-buffer : goal.shape_of-buffer
+shape_of-buffer c = search (rules, lengths)
+
+pub shape_of-body : goal.shape_of-body
+shape_of-body c = search (rules, lengths)
+
+pub shape_of-counts : goal.shape_of-counts
+shape_of-counts c = search (rules, lengths)
+
+pub returns : goal.returns
+returns c = search (rules, lengths)
