@@ -1,9 +1,8 @@
 -- `commit_ids::draw_other` meets its contract.
 -- Assumes nothing.
-use Rattle.commit_ids.proofs.SupplyExits.{Drawing, drawing_exits}
+use Rattle.commit_ids.proofs.SupplyExits.{Drawing}
 use Prim.Native.Nat.{◌-◌}
 use lib.ListN.{length}
-use borrow.Author.Rules.{rules}
 use Rattle.commit_ids.proofs.draw_other.Given as goal
 
 abbrev pub invariant-loop-at : goal.invariant-loop-at

@@ -1,8 +1,7 @@
 -- `commit_ids::view_id_at` meets its contract.
 -- Assumes nothing.
-use Rattle.records.proofs.IdExits.{filled, Filled}
+use Rattle.records.proofs.IdExits.{Filled}
 use Prim.Native.Nat.{◌-◌}
-use borrow.Author.Rules.{rules}
 use Rattle.commit_ids.proofs.view_id_at.Given as goal
 
 abbrev pub invariant-loop-i : goal.invariant-loop-i

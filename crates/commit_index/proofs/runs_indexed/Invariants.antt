@@ -1,8 +1,7 @@
 -- `commit_index::runs_indexed` meets its contract.
 -- Assumes nothing.
-use Rattle.commit_index.proofs.ImageExits.{runs_exits, RunsSeen}
+use Rattle.commit_index.proofs.ImageExits.{RunsSeen}
 use Prim.Native.Nat.{◌-◌}
-use borrow.Author.Rules.{rules}
 use Rattle.commit_index.proofs.runs_indexed.Given as goal
 
 abbrev pub invariant-loop-seen : goal.invariant-loop-seen

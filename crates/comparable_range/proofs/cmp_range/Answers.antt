@@ -1,7 +1,6 @@
 -- `comparable_range::cmp_range` meets its contract, start before end.
 -- Assumes nothing.
 use Rattle.comparable_range.specs.Range.{cmp_range}
-use borrow.Author.Rules.{rules}
 use Rattle.comparable_range.proofs.cmp_range.Goals as goal
 
 pub returns : goal.returns

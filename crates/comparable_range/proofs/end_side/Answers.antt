@@ -1,7 +1,6 @@
 -- `comparable_range::end_side` meets its contract.
 -- Assumes nothing.
 use Rattle.comparable_range.specs.Range.{end_side}
-use borrow.Author.Rules.{rules}
 use Rattle.comparable_range.proofs.end_side.Goals as goal
 
 pub returns : goal.returns

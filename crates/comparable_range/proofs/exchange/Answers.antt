@@ -1,6 +1,5 @@
 -- `comparable_range::exchange` meets its contract.
 -- Assumes nothing.
-use borrow.Author.Rules.{rules}
 use Rattle.comparable_range.proofs.exchange.Goals as goal
 
 pub returns-in-From : goal.returns-in-From

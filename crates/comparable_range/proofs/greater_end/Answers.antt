@@ -1,7 +1,6 @@
 -- `comparable_range::greater_end` meets its contract.
 -- Assumes nothing.
 use Rattle.comparable_range.specs.Range.{greater_end_side}
-use borrow.Author.Rules.{rules}
 use Rattle.comparable_range.proofs.greater_end.Goals as goal
 
 pub returns : goal.returns

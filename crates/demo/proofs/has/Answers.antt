@@ -1,6 +1,6 @@
 -- `demo::has` meets its contract.
 -- Assumes nothing.
-use Prim.Native.Nat.{◌+◌, ◌-◌, ◌≤◌}
+use Prim.Native.Nat.{◌+◌, ◌-◌}
 use lib.ListN.{length}
 use Rattle.demo.proofs.Exits.{has_none, has_one}
 use borrow.Author.Rules.{rules}

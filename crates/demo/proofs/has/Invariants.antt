@@ -1,9 +1,7 @@
 -- `demo::has` meets its contract.
 -- Assumes nothing.
-use Prim.Native.Nat.{◌+◌, ◌-◌, ◌≤◌}
+use Prim.Native.Nat.{◌-◌, ◌≤◌}
 use lib.ListN.{length}
-use Rattle.demo.proofs.Exits.{has_none, has_one}
-use borrow.Author.Rules.{rules}
 use Rattle.demo.proofs.has.Given as goal
 
 abbrev pub invariant-loop-i : goal.invariant-loop-i

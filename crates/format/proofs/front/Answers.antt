@@ -1,8 +1,6 @@
 -- `format::front` meets its contract, by what its loop keeps.
 -- Assumes nothing.
 use Rattle.format.proofs.Digits.{kept}
-use Rattle.format.proofs.Digits.{Reading}
-use Prim.Native.Nat.{◌-◌}
 use borrow.Author.Rules.{rules}
 use Rattle.format.proofs.front.Goals as goal
 

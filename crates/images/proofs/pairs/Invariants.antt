@@ -1,7 +1,6 @@
 -- `images::pairs` is safe and ends: the measure is what is left of the 56 pairs.
 -- Assumes nothing.
 use Prim.Native.Nat.{◌≤◌, ◌-◌}
-use borrow.Author.Rules.{rules}
 use Rattle.images.proofs.pairs.Given as goal
 
 abbrev pub invariant-loop-i : goal.invariant-loop-i

@@ -2,7 +2,6 @@
 -- Assumes nothing.
 use Rattle.key.proofs.Words.{long}
 use Prim.Native.Nat.{◌-◌}
-use Rattle.key.specs.Word.{Agree}
 use borrow.Author.Rules.{rules}
 use Rattle.key.proofs.agreed.Goals as goal
 

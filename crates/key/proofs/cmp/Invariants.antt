@@ -1,9 +1,7 @@
 -- `key::cmp` meets its contract, by what its loop over eight bytes a turn keeps.
 -- Assumes nothing.
-use Rattle.key.proofs.Words.{kept}
 use Prim.Native.Nat.{◌-◌}
 use Rattle.key.specs.Word.{Agree}
-use borrow.Author.Rules.{rules}
 use Rattle.key.proofs.cmp.Given as goal
 
 abbrev pub invariant-loop-i : goal.invariant-loop-i

@@ -1,10 +1,8 @@
 -- `key::cmp_bytes` meets its contract, by what its loop keeps.
 -- Assumes nothing.
-use Rattle.key.proofs.Passed.{kept}
 use Rattle.key.proofs.Passed.{Passed}
 use Prim.Native.Nat.{◌-◌}
 use lib.ListN.{length}
-use borrow.Author.Rules.{rules}
 use Rattle.key.proofs.cmp_bytes.Given as goal
 
 abbrev pub invariant-loop-i : goal.invariant-loop-i

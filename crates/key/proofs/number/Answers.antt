@@ -1,6 +1,5 @@
 -- `key::number` meets its contract.
 -- Assumes nothing.
-use borrow.Author.Rules.{rules}
 use Rattle.key.proofs.number.Goals as goal
 
 pub returns-in-Less : goal.returns-in-Less

@@ -1,8 +1,7 @@
 -- `plan_subcompaction_ranges::runs_sampled` meets its contract.
 -- Assumes nothing.
 use Prim.Native.Nat.{◌-◌}
-use Rattle.plan_subcompaction_ranges.proofs.WalkExits.{runs_exits, RunsWalk}
-use borrow.Author.Rules.{rules}
+use Rattle.plan_subcompaction_ranges.proofs.WalkExits.{RunsWalk}
 use Rattle.plan_subcompaction_ranges.proofs.runs_sampled.Given as goal
 
 abbrev pub invariant-loop-seen : goal.invariant-loop-seen

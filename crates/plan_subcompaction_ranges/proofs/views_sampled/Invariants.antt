@@ -1,8 +1,7 @@
 -- `plan_subcompaction_ranges::views_sampled` meets its contract.
 -- Assumes nothing.
 use Prim.Native.Nat.{◌-◌}
-use Rattle.plan_subcompaction_ranges.proofs.WalkExits.{views_exits, ViewsWalk}
-use borrow.Author.Rules.{rules}
+use Rattle.plan_subcompaction_ranges.proofs.WalkExits.{ViewsWalk}
 use Rattle.plan_subcompaction_ranges.proofs.views_sampled.Given as goal
 
 abbrev pub invariant-loop-seen : goal.invariant-loop-seen

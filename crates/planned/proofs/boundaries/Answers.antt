@@ -3,7 +3,7 @@
 use Prim.Native.Nat.{◌-◌}
 use native.Mathlib.Omega.{arith}
 use borrow.Author.Rules.{rules}
-use Rattle.planned.proofs.Walking.{Walking, walk_exits, one_key_marked, walk_keys, walk_bytes, walk_sum, walk_last, walk_there, mark_threshold, mark_more, no_mark}
+use Rattle.planned.proofs.Walking.{walk_exits, one_key_marked, walk_keys, walk_bytes, walk_sum, walk_last, walk_there, mark_threshold, mark_more, no_mark}
 use Rattle.planned.proofs.boundaries.Goals as goal
 
 pub returns-then-n-eq0 : goal.returns-then-n-eq0

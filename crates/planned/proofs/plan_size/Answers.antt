@@ -2,7 +2,7 @@
 -- Assumes nothing.
 use Prim.Native.Nat.{◌-◌}
 use borrow.Author.Rules.{rules}
-use Rattle.planned.proofs.PlanPut.{Sizing, size_exits}
+use Rattle.planned.proofs.PlanPut.{size_exits}
 use Rattle.planned.proofs.plan_size.Goals as goal
 
 pub loop-i-init : goal.loop-i-init

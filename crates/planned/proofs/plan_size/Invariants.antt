@@ -1,8 +1,7 @@
 -- `planned::plan_size` meets its contract.
 -- Assumes nothing.
 use Prim.Native.Nat.{◌-◌}
-use borrow.Author.Rules.{rules}
-use Rattle.planned.proofs.PlanPut.{Sizing, size_exits}
+use Rattle.planned.proofs.PlanPut.{Sizing}
 use Rattle.planned.proofs.plan_size.Given as goal
 
 abbrev pub invariant-loop-i : goal.invariant-loop-i

@@ -1,8 +1,7 @@
 -- `planned::put_joints` meets its contract.
 -- Assumes nothing.
 use Prim.Native.Nat.{◌-◌}
-use Rattle.planned.proofs.PlanPut.{Putting, put_exits}
-use borrow.Author.Rules.{rules}
+use Rattle.planned.proofs.PlanPut.{Putting}
 use Rattle.planned.proofs.put_joints.Given as goal
 
 abbrev pub invariant-loop-i : goal.invariant-loop-i

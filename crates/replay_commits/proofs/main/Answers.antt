@@ -4,7 +4,6 @@ use Prim.Native.Nat.{ℕ}
 use mathlib.Core.Path.{sym}
 use lib.ListN.{length-replicate}
 use Rattle.replay.proofs.Parts.{lengths}
-use borrow.Author.Rules.{rules}
 use Rattle.replay_commits.proofs.main.Goals as goal
 
 pub slice_bounds-replay_all-end-3 : goal.slice_bounds-replay_all-end-3

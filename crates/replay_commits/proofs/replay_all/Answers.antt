@@ -1,8 +1,6 @@
 -- `replay_commits::replay_all` is safe and ends: the buffers keep their lengths, and the measure is the count that is left.
 -- Assumes nothing.
 use Rattle.replay.proofs.Parts.{lengths}
-use mathlib.Core.Path.{◌≡◌}
-use lib.ListN.{length}
 use borrow.Author.Rules.{rules}
 use Rattle.replay_commits.proofs.replay_all.Goals as goal
 

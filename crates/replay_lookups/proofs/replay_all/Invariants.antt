@@ -1,9 +1,7 @@
 -- `replay_lookups::replay_all` is safe and ends: the buffers keep their lengths, and the measure is the count that is left.
 -- Assumes nothing.
-use Rattle.replay.proofs.Parts.{lengths}
 use mathlib.Core.Path.{◌≡◌}
 use lib.ListN.{length}
-use borrow.Author.Rules.{rules}
 use Rattle.replay_lookups.proofs.replay_all.Given as goal
 
 abbrev pub invariant-loop-left : goal.invariant-loop-left

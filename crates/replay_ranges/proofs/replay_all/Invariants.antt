@@ -2,7 +2,6 @@
 -- Assumes nothing.
 use mathlib.Core.Path.{◌≡◌}
 use lib.ListN.{length}
-use borrow.Author.Rules.{rules}
 use Rattle.replay_ranges.proofs.replay_all.Given as goal
 
 abbrev pub invariant-loop-left : goal.invariant-loop-left

@@ -1,8 +1,6 @@
 -- `sampled::sample` meets its contract.
 -- Assumes nothing.
-use Rattle.format.specs.Range.{range_in}
-use Rattle.subcompaction.specs.Tables.{index_there}
-use Rattle.sampled.proofs.SampleExits.{Sampled, group_key, sampled_wide, sampled_most, row_fits, sampled_held, sampled_total, sampled_keys, sampled_bytes, sample_exits}
+use Rattle.sampled.proofs.SampleExits.{group_key, sampled_wide, sampled_most, row_fits, sampled_held, sampled_total, sampled_keys, sampled_bytes, sample_exits}
 use borrow.Author.Rules.{rules}
 use Rattle.sampled.proofs.sample.Goals as goal
 

@@ -1,9 +1,8 @@
 -- `select_boundaries::anchors_read` meets its contract.
 -- Assumes nothing.
-use Rattle.select_boundaries.proofs.AnchorExits.{tabling_exits, Tabling}
+use Rattle.select_boundaries.proofs.AnchorExits.{Tabling}
 use Prim.Native.Nat.{◌-◌}
 use lib.ListN.{length}
-use borrow.Author.Rules.{rules}
 use Rattle.select_boundaries.proofs.anchors_read.Given as goal
 
 abbrev pub invariant-loop-seen : goal.invariant-loop-seen

@@ -1,6 +1,6 @@
 -- `text::decimal_len` meets its contract, by what its loop keeps.
 -- Assumes nothing.
-use Rattle.text.proofs.Puts.{Measured, measures}
+use Rattle.text.proofs.Puts.{measures}
 use borrow.Author.Rules.{rules}
 use Rattle.text.proofs.decimal_len.Goals as goal
 

@@ -1,7 +1,6 @@
 -- `text::decimal_len` meets its contract, by what its loop keeps.
 -- Assumes nothing.
-use Rattle.text.proofs.Puts.{Measured, measures}
-use borrow.Author.Rules.{rules}
+use Rattle.text.proofs.Puts.{Measured}
 use Rattle.text.proofs.decimal_len.Given as goal
 
 abbrev pub invariant-loop-rest : goal.invariant-loop-rest

@@ -1,6 +1,6 @@
 -- `text::put_decimal` meets its contract, by what its loop keeps.
 -- Assumes nothing.
-use Rattle.text.proofs.Puts.{Counted, counts}
+use Rattle.text.proofs.Puts.{counts}
 use borrow.Author.Rules.{rules}
 use Rattle.text.proofs.put_decimal.Goals as goal
 

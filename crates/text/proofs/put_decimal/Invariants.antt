@@ -1,7 +1,6 @@
 -- `text::put_decimal` meets its contract, by what its loop keeps.
 -- Assumes nothing.
-use Rattle.text.proofs.Puts.{Counted, counts}
-use borrow.Author.Rules.{rules}
+use Rattle.text.proofs.Puts.{Counted}
 use Rattle.text.proofs.put_decimal.Given as goal
 
 abbrev pub invariant-loop-rest : goal.invariant-loop-rest

@@ -1,10 +1,8 @@
 -- `text::put_hex` meets its contract, by what its loop keeps.
 -- Assumes nothing.
-use Rattle.text.proofs.Puts.{Spelled, spells}
+use Rattle.text.proofs.Puts.{Spelled}
 use lib.ListN.{length}
 use Prim.Native.Nat.{◌-◌}
-use native.Mathlib.Omega.{arith}
-use borrow.Author.Rules.{rules}
 use Rattle.text.proofs.put_hex.Given as goal
 
 abbrev pub invariant-loop-i : goal.invariant-loop-i

@@ -1,8 +1,7 @@
 -- `view_sizes::run_size` meets its contract.
 -- Assumes nothing.
-use Rattle.view_sizes.proofs.SizeExits.{sum_exits, Summing}
+use Rattle.view_sizes.proofs.SizeExits.{Summing}
 use Prim.Native.Nat.{◌-◌}
-use borrow.Author.Rules.{rules}
 use Rattle.view_sizes.proofs.run_size.Given as goal
 
 abbrev pub invariant-loop-seen : goal.invariant-loop-seen

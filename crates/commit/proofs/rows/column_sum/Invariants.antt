@@ -1,8 +1,7 @@
 -- `commit::rows::column_sum` meets its contract.
 -- Assumes nothing.
 use Prim.Native.Nat.{◌-◌}
-use Rattle.commit.proofs.RowExits.{sum_exits, Summed}
-use borrow.Author.Rules.{rules}
+use Rattle.commit.proofs.RowExits.{Summed}
 use Rattle.commit.proofs.rows.column_sum.Given as goal
 
 abbrev pub invariant-loop-k : goal.invariant-loop-k

@@ -1,8 +1,7 @@
 -- `commit_covered::covered::views_covered` meets its contract.
 -- Assumes nothing.
 use Prim.Native.Nat.{◌-◌}
-use Rattle.commit_covered.proofs.ViewExits.{ViewsSeen, shown_inside, shown_held, shown_behind, view_exits}
-use borrow.Author.Rules.{rules}
+use Rattle.commit_covered.proofs.ViewExits.{ViewsSeen}
 use Rattle.commit_covered.proofs.covered.views_covered.Given as goal
 
 abbrev pub invariant-loop-seen : goal.invariant-loop-seen

@@ -1,9 +1,6 @@
 -- `commit_covered::ids::is_kept` meets its contract.
 -- Assumes nothing.
-use lib.ListN.{length}
-use Rattle.incremental_progress.specs.Jobs.{outputs}
-use Rattle.commit_durable.specs.Tables.{job_of}
-use Rattle.commit_covered.proofs.IdExits.{kept_exits, Looking}
+use Rattle.commit_covered.proofs.IdExits.{kept_exits}
 use borrow.Author.Rules.{rules}
 use Rattle.commit_covered.proofs.ids.is_kept.Goals as goal
 

@@ -3,8 +3,7 @@
 use lib.ListN.{length}
 use Rattle.incremental_progress.specs.Jobs.{outputs}
 use Rattle.commit_durable.specs.Tables.{job_of}
-use Rattle.commit_covered.proofs.IdExits.{kept_exits, Looking}
-use borrow.Author.Rules.{rules}
+use Rattle.commit_covered.proofs.IdExits.{Looking}
 use Rattle.commit_covered.proofs.ids.is_kept.Given as goal
 
 abbrev pub invariant-loop-left : goal.invariant-loop-left

@@ -1,8 +1,7 @@
 -- `commit_covered::outputs::clear` meets its contract.
 -- Assumes nothing.
 use Prim.Native.Nat.{◌-◌}
-use lib.ListN.{length}
-use Rattle.commit_covered.proofs.OutputExits.{Clearing, clear_exits}
+use Rattle.commit_covered.proofs.OutputExits.{clear_exits}
 use borrow.Author.Rules.{rules}
 use Rattle.commit_covered.proofs.outputs.clear.Goals as goal
 

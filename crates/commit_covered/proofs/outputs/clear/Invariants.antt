@@ -2,8 +2,7 @@
 -- Assumes nothing.
 use Prim.Native.Nat.{◌-◌}
 use lib.ListN.{length}
-use Rattle.commit_covered.proofs.OutputExits.{Clearing, clear_exits}
-use borrow.Author.Rules.{rules}
+use Rattle.commit_covered.proofs.OutputExits.{Clearing}
 use Rattle.commit_covered.proofs.outputs.clear.Given as goal
 
 abbrev pub invariant-loop-i : goal.invariant-loop-i

@@ -1,8 +1,7 @@
 -- `commit_covered::outputs::keep_outputs` meets its contract.
 -- Assumes nothing.
 use Prim.Native.Nat.{◌-◌}
-use Rattle.commit_covered.proofs.OutputExits.{outputs_exits, PartsKept}
-use borrow.Author.Rules.{rules}
+use Rattle.commit_covered.proofs.OutputExits.{PartsKept}
 use Rattle.commit_covered.proofs.outputs.keep_outputs.Given as goal
 
 abbrev pub invariant-loop-i : goal.invariant-loop-i

@@ -1,8 +1,7 @@
 -- `commit_covered::outputs::keep_part` meets its contract.
 -- Assumes nothing.
 use Prim.Native.Nat.{◌-◌}
-use Rattle.commit_covered.proofs.OutputExits.{Keeping, part_exits}
-use borrow.Author.Rules.{rules}
+use Rattle.commit_covered.proofs.OutputExits.{Keeping}
 use Rattle.commit_covered.proofs.outputs.keep_part.Given as goal
 
 abbrev pub invariant-loop-seen : goal.invariant-loop-seen

@@ -1,8 +1,7 @@
 -- `commit_covered::runs::image_covered` meets its contract.
 -- Assumes nothing.
 use Prim.Native.Nat.{◌-◌}
-use Rattle.commit_covered.proofs.RunExits.{RunsSeen, runs_views, runs_exits}
-use borrow.Author.Rules.{rules}
+use Rattle.commit_covered.proofs.RunExits.{RunsSeen}
 use Rattle.commit_covered.proofs.runs.image_covered.Given as goal
 
 abbrev pub invariant-loop-k : goal.invariant-loop-k

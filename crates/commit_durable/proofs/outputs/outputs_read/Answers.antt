@@ -1,6 +1,6 @@
 -- `commit_durable::outputs::outputs_read` meets its contract.
 -- Assumes nothing.
-use Rattle.commit_durable.proofs.OutputExits.{outputs_exits, OutputsSeen}
+use Rattle.commit_durable.proofs.OutputExits.{outputs_exits}
 use borrow.Author.Rules.{rules}
 use Rattle.commit_durable.proofs.outputs.outputs_read.Goals as goal
 

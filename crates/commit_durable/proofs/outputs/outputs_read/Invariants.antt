@@ -1,7 +1,6 @@
 -- `commit_durable::outputs::outputs_read` meets its contract.
 -- Assumes nothing.
-use Rattle.commit_durable.proofs.OutputExits.{outputs_exits, OutputsSeen}
-use borrow.Author.Rules.{rules}
+use Rattle.commit_durable.proofs.OutputExits.{OutputsSeen}
 use Rattle.commit_durable.proofs.outputs.outputs_read.Given as goal
 
 abbrev pub invariant-loop-left : goal.invariant-loop-left

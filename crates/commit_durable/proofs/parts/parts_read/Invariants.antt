@@ -1,8 +1,7 @@
 -- `commit_durable::parts::parts_read` meets its contract.
 -- Assumes nothing.
 use Prim.Native.Nat.{◌-◌}
-use Rattle.commit_durable.proofs.PartExits.{parts_exits, PartsKept}
-use borrow.Author.Rules.{rules}
+use Rattle.commit_durable.proofs.PartExits.{PartsKept}
 use Rattle.commit_durable.proofs.parts.parts_read.Given as goal
 
 abbrev pub invariant-loop-seen : goal.invariant-loop-seen

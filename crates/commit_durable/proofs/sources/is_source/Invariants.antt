@@ -1,7 +1,6 @@
 -- `commit_durable::sources::is_source` meets its contract.
 -- Assumes nothing.
-use Rattle.commit_durable.proofs.SourceExits.{source_exits, IdsLeft}
-use borrow.Author.Rules.{rules}
+use Rattle.commit_durable.proofs.SourceExits.{IdsLeft}
 use Rattle.commit_durable.proofs.sources.is_source.Given as goal
 
 abbrev pub invariant-loop-left : goal.invariant-loop-left

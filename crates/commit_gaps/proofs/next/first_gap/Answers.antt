@@ -1,8 +1,6 @@
 -- `commit_gaps::next::first_gap` meets its contract.
 -- Assumes nothing.
 use Prim.Native.Nat.{◌-◌}
-use Rattle.format.specs.Range.{bound_in}
-use Rattle.commit_gaps.specs.Found.{Reached}
 use Rattle.commit_gaps.proofs.NextExits.{first_exits}
 use borrow.Author.Rules.{rules}
 use Rattle.commit_gaps.proofs.next.first_gap.Goals as goal

@@ -3,8 +3,6 @@
 use Prim.Native.Nat.{◌-◌}
 use Rattle.format.specs.Range.{bound_in}
 use Rattle.commit_gaps.specs.Found.{Reached}
-use Rattle.commit_gaps.proofs.NextExits.{first_exits}
-use borrow.Author.Rules.{rules}
 use Rattle.commit_gaps.proofs.next.first_gap.Given as goal
 
 abbrev pub invariant-loop-g : goal.invariant-loop-g

@@ -1,8 +1,7 @@
 -- `commit_gaps::next::next_piece` meets its contract.
 -- Assumes nothing.
 use Prim.Native.Nat.{◌-◌}
-use Rattle.format.specs.Range.{range_in}
-use Rattle.commit_gaps.proofs.NextExits.{Seeking, next_exits}
+use Rattle.commit_gaps.proofs.NextExits.{next_exits}
 use borrow.Author.Rules.{rules}
 use Rattle.commit_gaps.proofs.next.next_piece.Goals as goal
 

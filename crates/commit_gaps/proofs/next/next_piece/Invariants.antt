@@ -2,8 +2,7 @@
 -- Assumes nothing.
 use Prim.Native.Nat.{◌-◌}
 use Rattle.format.specs.Range.{range_in}
-use Rattle.commit_gaps.proofs.NextExits.{Seeking, next_exits}
-use borrow.Author.Rules.{rules}
+use Rattle.commit_gaps.proofs.NextExits.{Seeking}
 use Rattle.commit_gaps.proofs.next.next_piece.Given as goal
 
 abbrev pub invariant-loop-g : goal.invariant-loop-g

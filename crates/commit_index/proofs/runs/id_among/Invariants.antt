@@ -1,8 +1,7 @@
 -- `commit_index::id_among` meets its contract.
 -- Assumes nothing.
-use Rattle.commit_index.proofs.ImageExits.{among_exits, NotYet}
+use Rattle.commit_index.proofs.ImageExits.{NotYet}
 use Prim.Native.Nat.{◌-◌}
-use borrow.Author.Rules.{rules}
 use Rattle.commit_index.proofs.runs.id_among.Given as goal
 
 abbrev pub invariant-loop-i : goal.invariant-loop-i

@@ -1,7 +1,6 @@
 -- `commit_index::sources::sources_there` meets its contract.
 -- Assumes nothing.
-use Rattle.commit_index.proofs.SourceExits.{source_exits, SourcesLeft, all_there, one_is_not}
-use borrow.Author.Rules.{rules}
+use Rattle.commit_index.proofs.SourceExits.{SourcesLeft}
 use Rattle.commit_index.proofs.sources.sources_there.Given as goal
 
 abbrev pub invariant-loop-left : goal.invariant-loop-left

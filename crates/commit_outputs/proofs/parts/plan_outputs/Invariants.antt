@@ -1,8 +1,7 @@
 -- `commit_outputs::parts::plan_outputs` meets its contract.
 -- Assumes nothing.
-use Rattle.commit_outputs.proofs.PartsExits.{PartsSeen, parts_exits}
+use Rattle.commit_outputs.proofs.PartsExits.{PartsSeen}
 use Prim.Native.Nat.{◌-◌}
-use borrow.Author.Rules.{rules}
 use Rattle.commit_outputs.proofs.parts.plan_outputs.Given as goal
 
 abbrev pub invariant-loop-k : goal.invariant-loop-k

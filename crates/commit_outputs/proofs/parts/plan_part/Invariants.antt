@@ -1,8 +1,7 @@
 -- `commit_outputs::parts::plan_part` meets its contract.
 -- Assumes nothing.
-use Rattle.commit_outputs.proofs.PartExits.{PartSeen, part_exits}
+use Rattle.commit_outputs.proofs.PartExits.{PartSeen}
 use Prim.Native.Nat.{◌-◌}
-use borrow.Author.Rules.{rules}
 use Rattle.commit_outputs.proofs.parts.plan_part.Given as goal
 
 abbrev pub invariant-loop-seen : goal.invariant-loop-seen

@@ -1,8 +1,7 @@
 -- `commit_plan::plan::plan_runs` meets its contract.
 -- Assumes nothing.
-use Rattle.commit_plan.proofs.RunsExits.{RunsSeen, runs_exits}
+use Rattle.commit_plan.proofs.RunsExits.{RunsSeen}
 use Prim.Native.Nat.{◌-◌}
-use borrow.Author.Rules.{rules}
 use Rattle.commit_plan.proofs.plan.plan_runs.Given as goal
 
 abbrev pub invariant-loop-k : goal.invariant-loop-k

@@ -1,8 +1,7 @@
 -- `commit_plan::runs::plan_run` meets its contract.
 -- Assumes nothing.
-use Rattle.commit_plan.proofs.RunExits.{RunSeen, run_exits}
+use Rattle.commit_plan.proofs.RunExits.{RunSeen}
 use Prim.Native.Nat.{◌-◌}
-use borrow.Author.Rules.{rules}
 use Rattle.commit_plan.proofs.runs.plan_run.Given as goal
 
 abbrev pub invariant-loop-seen : goal.invariant-loop-seen

@@ -1,8 +1,7 @@
 -- `commit_plan::views::plan_view` meets its contract.
 -- Assumes nothing.
-use Rattle.commit_plan.proofs.ViewExits.{ViewSeen, view_exits}
+use Rattle.commit_plan.proofs.ViewExits.{ViewSeen}
 use Prim.Native.Nat.{◌-◌}
-use borrow.Author.Rules.{rules}
 use Rattle.commit_plan.proofs.views.plan_view.Given as goal
 
 abbrev pub invariant-loop-g : goal.invariant-loop-g

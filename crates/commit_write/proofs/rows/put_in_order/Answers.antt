@@ -2,8 +2,6 @@
 -- Assumes nothing.
 use Rattle.commit_write.proofs.Writing.{order_exits}
 use Prim.Native.Nat.{◌-◌}
-use lib.ListN.{take}
-use Rattle.commit_write.proofs.Writing.{Writing}
 use borrow.Author.Rules.{rules}
 use Rattle.commit_write.proofs.rows.put_in_order.Goals as goal
 

@@ -1,10 +1,8 @@
 -- `commit_write::rows::put_in_order` meets its contract.
 -- Assumes nothing.
-use Rattle.commit_write.proofs.Writing.{order_exits}
 use Prim.Native.Nat.{◌-◌}
 use lib.ListN.{take}
 use Rattle.commit_write.proofs.Writing.{Writing}
-use borrow.Author.Rules.{rules}
 use Rattle.commit_write.proofs.rows.put_in_order.Given as goal
 
 abbrev pub invariant-loop-i : goal.invariant-loop-i

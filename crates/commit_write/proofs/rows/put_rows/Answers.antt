@@ -2,8 +2,6 @@
 -- Assumes nothing.
 use Rattle.commit_write.proofs.Writing.{rows_exits}
 use Prim.Native.Nat.{◌-◌}
-use Rattle.commit_write.specs.Rows.{count_from}
-use Rattle.commit_write.proofs.Writing.{Writing}
 use borrow.Author.Rules.{rules}
 use Rattle.commit_write.proofs.rows.put_rows.Goals as goal
 

@@ -1,10 +1,8 @@
 -- `commit_write::rows::put_rows` meets its contract.
 -- Assumes nothing.
-use Rattle.commit_write.proofs.Writing.{rows_exits}
 use Prim.Native.Nat.{◌-◌}
 use Rattle.commit_write.specs.Rows.{count_from}
 use Rattle.commit_write.proofs.Writing.{Writing}
-use borrow.Author.Rules.{rules}
 use Rattle.commit_write.proofs.rows.put_rows.Given as goal
 
 abbrev pub invariant-loop-i : goal.invariant-loop-i

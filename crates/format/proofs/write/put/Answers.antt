@@ -1,9 +1,6 @@
 -- `format::put` meets its contract, by what its loop keeps.
 -- Assumes nothing.
 use Rattle.format.proofs.Puts.{puts}
-use Rattle.format.proofs.Puts.{Pasted}
-use Prim.Native.Nat.{◌-◌}
-use lib.ListN.{length}
 use borrow.Author.Rules.{rules}
 use Rattle.format.proofs.write.put.Goals as goal
 

@@ -1,7 +1,6 @@
 -- `format::put_number` meets its contract, by what its loop keeps.
 -- Assumes nothing.
 use Rattle.format.proofs.Puts.{counts}
-use Rattle.format.proofs.Puts.{Counted}
 use borrow.Author.Rules.{rules}
 use Rattle.format.proofs.write.put_number.Goals as goal
 

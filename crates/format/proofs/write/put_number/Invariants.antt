@@ -1,8 +1,6 @@
 -- `format::put_number` meets its contract, by what its loop keeps.
 -- Assumes nothing.
-use Rattle.format.proofs.Puts.{counts}
 use Rattle.format.proofs.Puts.{Counted}
-use borrow.Author.Rules.{rules}
 use Rattle.format.proofs.write.put_number.Given as goal
 
 abbrev pub invariant-loop-i : goal.invariant-loop-i

@@ -1,8 +1,7 @@
 -- `from_compaction::ranges::put_ranges` meets its contract.
 -- Assumes nothing.
 use Prim.Native.Nat.{◌-◌}
-use Rattle.from_compaction.proofs.RangeExits.{put_exits, Putting}
-use borrow.Author.Rules.{rules}
+use Rattle.from_compaction.proofs.RangeExits.{Putting}
 use Rattle.from_compaction.proofs.ranges.put_ranges.Given as goal
 
 abbrev pub invariant-loop-k : goal.invariant-loop-k

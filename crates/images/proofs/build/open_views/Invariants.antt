@@ -3,7 +3,6 @@
 use Prim.Native.Nat.{◌-◌}
 use mathlib.Core.Path.{◌≡◌}
 use lib.ListN.{length}
-use borrow.Author.Rules.{rules}
 use Rattle.images.proofs.build.open_views.Given as goal
 
 abbrev pub invariant-loop-id : goal.invariant-loop-id

@@ -1,8 +1,7 @@
 -- `listing::runs_len` meets its contract.
 -- Assumes nothing.
-use Rattle.listing.proofs.Loops.{runs_len_exits, RunsLen}
+use Rattle.listing.proofs.Loops.{RunsLen}
 use Prim.Native.Nat.{◌-◌}
-use borrow.Author.Rules.{rules}
 use Rattle.listing.proofs.measure.runs_len.Given as goal
 
 abbrev pub invariant-loop-seen : goal.invariant-loop-seen

@@ -1,8 +1,7 @@
 -- `listing::views_len` meets its contract.
 -- Assumes nothing.
-use Rattle.listing.proofs.Loops.{views_len_exits, ViewsLen}
+use Rattle.listing.proofs.Loops.{ViewsLen}
 use Prim.Native.Nat.{◌-◌}
-use borrow.Author.Rules.{rules}
 use Rattle.listing.proofs.measure.views_len.Given as goal
 
 abbrev pub invariant-loop-place : goal.invariant-loop-place

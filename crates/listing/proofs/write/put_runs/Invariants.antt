@@ -1,8 +1,7 @@
 -- `listing::put_runs` meets its contract.
 -- Assumes nothing.
-use Rattle.listing.proofs.Loops.{runs_put_exits, RunsPut}
+use Rattle.listing.proofs.Loops.{RunsPut}
 use Prim.Native.Nat.{◌-◌}
-use borrow.Author.Rules.{rules}
 use Rattle.listing.proofs.write.put_runs.Given as goal
 
 abbrev pub invariant-loop-seen : goal.invariant-loop-seen

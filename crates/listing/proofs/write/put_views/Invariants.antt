@@ -1,8 +1,7 @@
 -- `listing::put_views` meets its contract.
 -- Assumes nothing.
-use Rattle.listing.proofs.Loops.{views_put_exits, ViewsPut}
+use Rattle.listing.proofs.Loops.{ViewsPut}
 use Prim.Native.Nat.{◌-◌}
-use borrow.Author.Rules.{rules}
 use Rattle.listing.proofs.write.put_views.Given as goal
 
 abbrev pub invariant-loop-place : goal.invariant-loop-place

@@ -1,8 +1,7 @@
 -- `manifest::runs_judged` meets its contract.
 -- Assumes nothing.
-use Rattle.manifest.proofs.ImageExits.{runs_exits, RunsSeen}
+use Rattle.manifest.proofs.ImageExits.{RunsSeen}
 use Prim.Native.Nat.{◌-◌}
-use borrow.Author.Rules.{rules}
 use Rattle.manifest.proofs.images.runs_judged.Given as goal
 
 abbrev pub invariant-loop-seen : goal.invariant-loop-seen

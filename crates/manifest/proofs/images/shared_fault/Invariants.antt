@@ -1,8 +1,7 @@
 -- `manifest::shared_fault` meets its contract.
 -- Assumes nothing.
-use Rattle.manifest.proofs.ImageExits.{shared_exits, Unshared}
+use Rattle.manifest.proofs.ImageExits.{Unshared}
 use Prim.Native.Nat.{◌-◌}
-use borrow.Author.Rules.{rules}
 use Rattle.manifest.proofs.images.shared_fault.Given as goal
 
 abbrev pub invariant-loop-i : goal.invariant-loop-i

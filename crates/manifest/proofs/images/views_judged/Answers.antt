@@ -1,6 +1,6 @@
 -- `manifest::images::views_judged` meets its contract.
 -- Assumes nothing.
-use Rattle.manifest.proofs.ImageExits.{views_exits, ViewsSeen}
+use Rattle.manifest.proofs.ImageExits.{views_exits}
 use Rattle.manifest.proofs.RangeExits.{both_bounds}
 use borrow.Author.Rules.{rules}
 use Rattle.manifest.proofs.images.views_judged.Goals as goal

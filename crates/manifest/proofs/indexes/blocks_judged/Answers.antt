@@ -1,6 +1,6 @@
 -- `manifest::blocks_judged` meets its contract.
 -- Assumes nothing.
-use Rattle.manifest.proofs.IndexExits.{blocks_exits, BlocksSeen}
+use Rattle.manifest.proofs.IndexExits.{blocks_exits}
 use borrow.Author.Rules.{rules}
 use Rattle.manifest.proofs.indexes.blocks_judged.Goals as goal
 

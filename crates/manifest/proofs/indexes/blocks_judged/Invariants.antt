@@ -1,7 +1,6 @@
 -- `manifest::blocks_judged` meets its contract.
 -- Assumes nothing.
-use Rattle.manifest.proofs.IndexExits.{blocks_exits, BlocksSeen}
-use borrow.Author.Rules.{rules}
+use Rattle.manifest.proofs.IndexExits.{BlocksSeen}
 use Rattle.manifest.proofs.indexes.blocks_judged.Given as goal
 
 abbrev pub invariant-loop-left : goal.invariant-loop-left

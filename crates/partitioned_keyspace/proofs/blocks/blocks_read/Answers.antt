@@ -1,7 +1,7 @@
 -- `partitioned_keyspace::blocks::blocks_read` meets its contract: after each block, what is kept is what the first
 -- keys seen so far say.
 -- Assumes nothing.
-use Rattle.partitioned_keyspace.proofs.BlockExits.{blocks_exits, block_room, in_order, BlocksSeen}
+use Rattle.partitioned_keyspace.proofs.BlockExits.{blocks_exits, block_room, in_order}
 use borrow.Author.Rules.{rules}
 use Rattle.partitioned_keyspace.proofs.blocks.blocks_read.Goals as goal
 

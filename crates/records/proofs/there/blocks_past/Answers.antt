@@ -1,8 +1,7 @@
 -- `records::blocks_past` meets its contract.
 -- Assumes nothing.
-use Rattle.records.proofs.Pasts.{block_walk, Walked}
+use Rattle.records.proofs.Pasts.{block_walk}
 use Prim.Native.Nat.{◌-◌}
-use Rattle.records.specs.Layouts.{block}
 use borrow.Author.Rules.{rules}
 use Rattle.records.proofs.there.blocks_past.Goals as goal
 

@@ -1,9 +1,8 @@
 -- `records::blocks_past` meets its contract.
 -- Assumes nothing.
-use Rattle.records.proofs.Pasts.{block_walk, Walked}
+use Rattle.records.proofs.Pasts.{Walked}
 use Prim.Native.Nat.{◌-◌}
 use Rattle.records.specs.Layouts.{block}
-use borrow.Author.Rules.{rules}
 use Rattle.records.proofs.there.blocks_past.Given as goal
 
 abbrev pub invariant-loop-seen : goal.invariant-loop-seen

@@ -1,8 +1,7 @@
 -- `records::views_end` meets its contract.
 -- Assumes nothing.
-use Rattle.records.proofs.Pasts.{view_walk, Walked}
+use Rattle.records.proofs.Pasts.{view_walk}
 use Prim.Native.Nat.{◌-◌}
-use Rattle.records.specs.Layouts.{view}
 use borrow.Author.Rules.{rules}
 use Rattle.records.proofs.there.views_end.Goals as goal
 

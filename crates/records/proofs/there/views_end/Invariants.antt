@@ -1,9 +1,8 @@
 -- `records::views_end` meets its contract.
 -- Assumes nothing.
-use Rattle.records.proofs.Pasts.{view_walk, Walked}
+use Rattle.records.proofs.Pasts.{Walked}
 use Prim.Native.Nat.{◌-◌}
 use Rattle.records.specs.Layouts.{view}
-use borrow.Author.Rules.{rules}
 use Rattle.records.proofs.there.views_end.Given as goal
 
 abbrev pub invariant-loop-seen : goal.invariant-loop-seen

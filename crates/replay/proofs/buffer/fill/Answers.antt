@@ -1,9 +1,7 @@
 -- `replay::fill` is safe and ends: the buffer keeps its length, and the measure is what is left of it.
 -- Assumes nothing.
 use Rattle.replay.proofs.Parts.{lengths}
-use Prim.Native.Nat.{◌≤◌, ◌-◌}
-use lib.ListN.{length}
-use mathlib.Core.Path.{◌≡◌}
+use Prim.Native.Nat.{◌-◌}
 use borrow.Author.Rules.{rules}
 use Rattle.replay.proofs.buffer.fill.Goals as goal
 

@@ -1,8 +1,7 @@
 -- `replay::is_unwritten` meets its contract.
 -- Assumes nothing.
-use Rattle.replay.proofs.Kept.{unwritten_exits, Before}
+use Rattle.replay.proofs.Kept.{unwritten_exits}
 use Prim.Native.Nat.{◌-◌}
-use lib.ListN.{length}
 use borrow.Author.Rules.{rules}
 use Rattle.replay.proofs.buffer.is_unwritten.Goals as goal
 

@@ -1,9 +1,8 @@
 -- `replay::is_unwritten` meets its contract.
 -- Assumes nothing.
-use Rattle.replay.proofs.Kept.{unwritten_exits, Before}
+use Rattle.replay.proofs.Kept.{Before}
 use Prim.Native.Nat.{◌-◌}
 use lib.ListN.{length}
-use borrow.Author.Rules.{rules}
 use Rattle.replay.proofs.buffer.is_unwritten.Given as goal
 
 abbrev pub invariant-loop-i : goal.invariant-loop-i

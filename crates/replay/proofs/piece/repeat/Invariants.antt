@@ -1,10 +1,8 @@
 -- `replay::repeat` is safe and ends: the buffer keeps its length, and the measure is what is left to write.
 -- Assumes nothing.
-use Rattle.replay.proofs.Parts.{lengths}
 use Prim.Native.Nat.{◌≤◌, ◌-◌}
 use mathlib.Core.Path.{◌≡◌}
 use lib.ListN.{length}
-use borrow.Author.Rules.{rules}
 use Rattle.replay.proofs.piece.repeat.Given as goal
 
 abbrev pub invariant-loop-i : goal.invariant-loop-i

@@ -2,7 +2,7 @@
 -- Assumes nothing.
 use Prim.Native.Nat.{◌-◌}
 use borrow.Author.Rules.{rules}
-use Rattle.sample_anchors.proofs.PutExits.{Measured, len_exits}
+use Rattle.sample_anchors.proofs.PutExits.{len_exits}
 use Rattle.sample_anchors.proofs.put.anchors_len.Goals as goal
 
 pub loop-row-init : goal.loop-row-init

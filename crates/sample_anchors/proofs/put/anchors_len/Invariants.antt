@@ -1,8 +1,7 @@
 -- `sample_anchors::put::anchors_len` meets its contract.
 -- Assumes nothing.
 use Prim.Native.Nat.{◌-◌}
-use borrow.Author.Rules.{rules}
-use Rattle.sample_anchors.proofs.PutExits.{Measured, len_exits}
+use Rattle.sample_anchors.proofs.PutExits.{Measured}
 use Rattle.sample_anchors.proofs.put.anchors_len.Given as goal
 
 abbrev pub invariant-loop-row : goal.invariant-loop-row

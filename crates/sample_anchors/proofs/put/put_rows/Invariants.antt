@@ -1,8 +1,7 @@
 -- `sample_anchors::put::put_rows` meets its contract.
 -- Assumes nothing.
 use Prim.Native.Nat.{◌-◌}
-use Rattle.sample_anchors.proofs.PutExits.{PutRows, put_rows_exits}
-use borrow.Author.Rules.{rules}
+use Rattle.sample_anchors.proofs.PutExits.{PutRows}
 use Rattle.sample_anchors.proofs.put.put_rows.Given as goal
 
 abbrev pub invariant-loop-row : goal.invariant-loop-row

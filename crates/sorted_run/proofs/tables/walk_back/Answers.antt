@@ -1,8 +1,6 @@
 -- `sorted_run::tables::walk_back` meets its contract.
 -- Assumes nothing.
-use Rattle.sorted_run.proofs.CoveringExits.{back_exits, Back}
-use Rattle.sst_view.specs.Asked.{range_at}
-use Rattle.sst_view.specs.Runs.{views_of}
+use Rattle.sorted_run.proofs.CoveringExits.{back_exits}
 use borrow.Author.Rules.{rules}
 use Rattle.sorted_run.proofs.tables.walk_back.Goals as goal
 

@@ -1,9 +1,8 @@
 -- `sorted_run::tables::walk_back` meets its contract.
 -- Assumes nothing.
-use Rattle.sorted_run.proofs.CoveringExits.{back_exits, Back}
+use Rattle.sorted_run.proofs.CoveringExits.{Back}
 use Rattle.sst_view.specs.Asked.{range_at}
 use Rattle.sst_view.specs.Runs.{views_of}
-use borrow.Author.Rules.{rules}
 use Rattle.sorted_run.proofs.tables.walk_back.Given as goal
 
 abbrev pub invariant-loop-idx : goal.invariant-loop-idx

@@ -1,9 +1,7 @@
 -- `sst_view::places::runs_end` meets its contract.
 -- Assumes nothing.
 use Rattle.sst_view.proofs.PlaceExits.{run_walk}
-use Rattle.records.proofs.Pasts.{Walked}
 use Prim.Native.Nat.{◌-◌}
-use Rattle.records.specs.Layouts.{run}
 use borrow.Author.Rules.{rules}
 use Rattle.sst_view.proofs.places.runs_end.Goals as goal
 

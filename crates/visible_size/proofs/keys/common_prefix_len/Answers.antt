@@ -1,7 +1,7 @@
 -- `visible_size::keys::common_prefix_len` meets its contract, by what its loop keeps.
 -- Assumes nothing.
-use Rattle.std.proofs.Common.{◌-◌, length, rules}
-use Rattle.visible_size.proofs.Prefixes.{Alike, alike_exits}
+use Rattle.std.proofs.Common.{◌-◌, rules}
+use Rattle.visible_size.proofs.Prefixes.{alike_exits}
 use Rattle.visible_size.proofs.keys.common_prefix_len.Goals as goal
 
 pub loop-i-init : goal.loop-i-init

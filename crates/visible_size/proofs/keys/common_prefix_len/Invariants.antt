@@ -1,7 +1,7 @@
 -- `visible_size::keys::common_prefix_len` meets its contract, by what its loop keeps.
 -- Assumes nothing.
-use Rattle.std.proofs.Common.{◌-◌, length, rules}
-use Rattle.visible_size.proofs.Prefixes.{Alike, alike_exits}
+use Rattle.std.proofs.Common.{◌-◌, length}
+use Rattle.visible_size.proofs.Prefixes.{Alike}
 use Rattle.visible_size.proofs.keys.common_prefix_len.Given as goal
 
 abbrev pub invariant-loop-i : goal.invariant-loop-i

@@ -1,7 +1,7 @@
 -- `visible_size::keys::key_fraction` meets its contract.
 -- Assumes nothing.
-use Rattle.std.proofs.Common.{◌-◌, rules}
-use Rattle.visible_size.proofs.KeyNumbers.{Counting, counted}
+use Rattle.std.proofs.Common.{◌-◌}
+use Rattle.visible_size.proofs.KeyNumbers.{Counting}
 use Rattle.visible_size.proofs.keys.key_fraction.Given as goal
 
 abbrev pub invariant-loop-i : goal.invariant-loop-i

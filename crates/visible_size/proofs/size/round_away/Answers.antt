@@ -2,9 +2,6 @@
 -- Assumes nothing.
 use Rattle.visible_size.proofs.Twice.{exits, answer}
 use Rattle.std.proofs.Common.{arith, rules}
-use Rattle.visible_size.proofs.size.round_away.Reads as reads
-use Rattle.visible_size.proofs.size.round_away.Lts as lts
-use Rattle.std.proofs.num.truncating_f64_to_u64.Reads as truncating-f64-to-u64-reads
 use Rattle.visible_size.proofs.size.round_away.Goals as goal
 
 -- src/size.rt:15:9

@@ -2,10 +2,6 @@
 -- Assumes nothing.
 use Rattle.visible_size.proofs.SizeExits.{size_exits, size_answered}
 use Rattle.std.proofs.Common.{arith, rules}
-use Rattle.visible_size.proofs.size.visible_size.Reads as reads
-use Rattle.visible_size.proofs.size.visible_size.Lts as lts
-use Rattle.visible_size.proofs.size.fraction_number.Reads as fraction-number-reads
-use Rattle.visible_size.proofs.size.round_away.Reads as round-away-reads
 use Rattle.visible_size.proofs.size.visible_size.Goals as goal
 
 -- src/size.rt:33:27
