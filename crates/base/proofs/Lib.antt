@@ -1,1 +1,5 @@
 pub mod StableSort
+pub mod SortLaws
+pub mod SortMore
+pub mod StableSortLaws
+pub mod Outcome

@@ -2,9 +2,9 @@
 -- Assumes nothing.
 use mathlib.Core.Path.{sym, ◌∙◌}
 use Rattle.base.specs.Sort.{sort}
-use Rattle.base.specs.SortLaws.{sort_sorted}
-use Rattle.base.specs.StableSort.{StableSort, SortIsStable, OnlyTheSortIsStable}
-use Rattle.base.specs.StableSortLaws.{sort_permutes, sort_stable, sort_unique}
+use Rattle.base.proofs.SortLaws.{sort_sorted}
+use Rattle.base.specs.StableSort.{SortIsStable, OnlyTheSortIsStable}
+use Rattle.base.proofs.StableSortLaws.{sort_permutes, sort_stable, sort_unique}
 
 pub sort_is_stable : SortIsStable
 sort_is_stable A K le o key xs = record { permutation = sort_permutes le key xs; ascending = sort_sorted o key xs; kept = λ c. sort_stable o key c xs }

@@ -1,6 +1,6 @@
 -- Lists: a property of each element, of each pair in order, and laws of flat_map and take.
 -- Assumes nothing.
-use Rattle.std.specs.Prelude.{ℕ, zero, suc, ◌≤◌, ◌≡◌, refl, length, take}
+use Rattle.std.specs.Prelude.{ℕ, ◌≤◌, ◌≡◌, refl, length, take}
 use Rattle.std.proofs.Common.{arith, sym, length-take-le, take-take, take_at}
 use mathlib.Core.List.{List, [], ◌∷◌, ◌++◌, map, flat_map, append_assoc}
 

@@ -5,7 +5,8 @@ use mathlib.Core.Path.{◌≡◌, sym, ap, ◌∙◌}
 use mathlib.Core.List.{List}
 use lib.ListN.{length}
 use lib.Dec.{T}
-use Rattle.base.specs.Outcome.{stop, answer, and_then, over, lent, written_to, reported, stops_16, keeps, wrote, stands}
+use Rattle.base.specs.Outcome.{stop, answer, and_then, over, lent, written_to, reported}
+use Rattle.base.proofs.Outcome.{stops_16, keeps, wrote, stands}
 use Rattle.base.specs.declared.Written.TheVariants.{Wrote, Stop}
 use Rattle.format.specs.Whole.{whole}
 use Rattle.format.specs.declared.span.RangeSpan.{RangeSpan}

@@ -9,7 +9,8 @@ use lib.ListN.{length, drop}
 use lib.Dec.{T, leb}
 use borrow.Author.Tests.{le-leb, lt-leb}
 use Rattle.base.specs.Splice.{splice}
-use Rattle.base.specs.Outcome.{stop, answer, check, and_then, lent, written_to, reported, stops_16, keeps, wrote, stands}
+use Rattle.base.specs.Outcome.{stop, answer, check, and_then, lent, written_to, reported}
+use Rattle.base.proofs.Outcome.{stops_16, keeps, wrote, stands}
 use Rattle.base.specs.declared.Written.TheVariants.{Wrote, Stop}
 use Rattle.format.specs.Got.{Got, got, is_got}
 use Rattle.format.specs.Got.{stop as stopped}

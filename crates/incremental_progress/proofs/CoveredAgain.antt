@@ -15,7 +15,7 @@ use Rattle.incremental_progress.specs.Parts.{intervals}
 use Rattle.incremental_progress.specs.Jobs.{is_output, others}
 use Rattle.incremental_progress.specs.Checks.{covered, output_views_covered}
 use Rattle.base.specs.Lists.{All, All-map, All-of, All-both, All-append, All-flatMap, All-mapped}
-use Rattle.base.specs.SortLaws.{All-sort}
+use Rattle.base.proofs.SortLaws.{All-sort}
 use Rattle.comparable_range.specs.Cut.{cut_at_most}
 use Rattle.incremental_progress.proofs.Views.{piece_table}
 use Rattle.incremental_progress.proofs.Publish.{good_job}

@@ -18,7 +18,7 @@ use Rattle.incremental_progress.proofs.Marked.{piece, retained, cut_run, cut_des
 use Rattle.base.specs.Lists.{All, All-map, All-of, All-mapped, All-unmapped, All-both, All-flatMap, All-forall, Pairwise, Pairwise-append, Pairwise-all, Pairwise-map, flat_map_append, flat_map_none}
 use Rattle.base.specs.Sort.{insert, sort}
 use Rattle.base.specs.StableSort.{at, alike}
-use Rattle.base.specs.StableSortLaws.{at_none}
+use Rattle.base.proofs.StableSortLaws.{at_none}
 use Rattle.incremental_progress.proofs.Sort.{alike_before, alike_after, Sorted, Untied, sort_between, insert_first, insert_next}
 use Rattle.incremental_progress.proofs.Cutting.{Grown}
 use Rattle.incremental_progress.proofs.Subtraction.{cuts, span_of, cut_out_cuts, Sound, All-spans}

@@ -21,7 +21,7 @@ use Rattle.incremental_progress.specs.Draws.{Ten, tens, supply, Drawn, used_up, 
 use Rattle.incremental_progress.specs.Entries.{Entry, view_entries, run_entries, part_entries}
 use Rattle.base.specs.Lists.{All, All-append, All-flatMap}
 use Rattle.base.specs.Sort.{sort}
-use Rattle.base.specs.SortLaws.{All-sort}
+use Rattle.base.proofs.SortLaws.{All-sort}
 use Rattle.comparable_range.specs.Cut.{cut_at_most}
 use Rattle.incremental_progress.proofs.NewRuns.{fill_by_kind}
 

@@ -26,8 +26,8 @@ use Rattle.incremental_progress.specs.Ids.{time_length, time_of}
 use Rattle.incremental_progress.specs.Entries.{Entry, whole, cut, entry_start, piece_entry, view_entries, run_entries, output_entries, part_entries}
 use Rattle.base.specs.Lists.{All, All-of, All-append, All-mapped, map_append, map_flat_map, take_front}
 use Rattle.base.specs.Sort.{sort}
-use Rattle.base.specs.SortLaws.{All-sort}
-use Rattle.base.specs.SortMore.{sort_map}
+use Rattle.base.proofs.SortLaws.{All-sort}
+use Rattle.base.proofs.SortMore.{sort_map}
 use Rattle.incremental_progress.proofs.NewRuns.{fill_by_kind}
 use Rattle.incremental_progress.proofs.Ids.{Each-append, fills_sort, fills_self}
 

@@ -14,7 +14,7 @@ use Rattle.comparable_range.proofs.Cut.{≼_trans, ≺-≼, ≺-≼-trans, order
 use Rattle.base.specs.Lists.{All, All-map, All-append, All-mapped, Pairwise, Pairwise-append}
 use Rattle.base.specs.Sort.{sort}
 use Rattle.base.specs.StableSort.{alike, at}
-use Rattle.base.specs.StableSortLaws.{at_none, at_append, sort_stable}
+use Rattle.base.proofs.StableSortLaws.{at_none, at_append, sort_stable}
 use Rattle.incremental_progress.proofs.Sort.{cut_preorder, alike_before, alike_after, Sorted, sort_sorted, sort_unique}
 
 -- ---- gaps between intervals that ascend

@@ -6,9 +6,11 @@ use mathlib.Core.Bool.{true, false}
 use mathlib.Core.List.{List, [], ◌∷◌, ◌++◌, flat_map}
 use Rattle.base.specs.Lists.{All-map, Pairwise}
 use Rattle.base.specs.Sort.{insert, sort, Preorder}
-use Rattle.base.specs.SortLaws as laws
+use Rattle.base.specs.SortLaws as sorting
+use Rattle.base.proofs.SortLaws as laws
 use Rattle.base.specs.StableSort.{alike, at}
-use Rattle.base.specs.StableSortLaws as stable
+use Rattle.base.specs.StableSortLaws as pieces
+use Rattle.base.proofs.StableSortLaws as stable
 use Rattle.comparable_range.specs.Cut.{Cut, cut_at_most, ◌≼◌, ◌≺◌}
 use Rattle.comparable_range.proofs.Cut.{≼_trans, ≺-≼}
 
@@ -29,11 +31,11 @@ module _ {A : Type 0} (start : A → Cut) where
   abbrev pub Sorted : List A → Type 0
   Sorted = Pairwise (λ x y. start x ≼ start y)
 
-  tested : (xs : List A) → Sorted xs → laws.Sorted cut_at_most start xs
+  tested : (xs : List A) → Sorted xs → sorting.Sorted cut_at_most start xs
   tested [] s = tt
   tested (x ∷ xs) s = (All-map (λ y h. h.holds) xs s.0, tested xs s.1)
 
-  stated : (xs : List A) → laws.Sorted cut_at_most start xs → Sorted xs
+  stated : (xs : List A) → sorting.Sorted cut_at_most start xs → Sorted xs
   stated [] s = tt
   stated (x ∷ xs) s = (All-map (λ y h. record { holds = h }) xs s.0, stated xs s.1)
 
@@ -54,7 +56,7 @@ module _ {A : Type 0} (start : A → Cut) where
     abbrev pub Untied : A → A → Type 0
     Untied x y = start y ≺ start x → (c : Cut) → (at cut_at_most start c (f x) ≡ []) ⊎ (at cut_at_most start c (f y) ≡ [])
 
-    untied : (xs : List A) → Pairwise Untied xs → Pairwise (stable.Untied cut_at_most start f) xs
+    untied : (xs : List A) → Pairwise Untied xs → Pairwise (pieces.Untied cut_at_most start f) xs
     untied [] p = tt
     untied (x ∷ xs) p = (All-map (λ y u h c. u (record { fails = h }) c) xs p.0, untied xs p.1)
 

@@ -9,14 +9,15 @@ use lib.ListN.{length, get_or, take, drop, length-append}
 use lib.Seq.{get_or-take, take_at}
 use Rattle.base.specs.Lists.{All}
 use Rattle.base.specs.Sort.{insert, sort}
-use Rattle.base.specs.SortLaws.{decided, All-sort, length_sort}
+use Rattle.base.specs.SortLaws.{decided}
+use Rattle.base.proofs.SortLaws.{All-sort, length_sort}
 use Rattle.key.specs.Order.{key_at_most}
 use Rattle.records.specs.Values.{Anchor, Anchors}
 use Rattle.manifest.specs.Checks.{total}
 use Rattle.key_rows.specs.Rows.{key_at, count_from, in_order}
 use Rattle.subcompaction.specs.Boundaries.{prepared}
 use Rattle.subcompaction.specs.Tables.{anchor_at, anchors_in}
-use Rattle.base.specs.SortMore.{sort_map}
+use Rattle.base.proofs.SortMore.{sort_map}
 use Rattle.key_rows.proofs.RowLaws.{length_count, all_below}
 
 pub prepared_rows : (s keys bytes : List ℕ) (n : ℕ) → prepared (anchors_in s keys bytes n) ≡ map (anchor_at s keys bytes) (in_order s keys n)

@@ -10,7 +10,8 @@ use lib.Dec.{T}
 use mir.Val.{Fits}
 use mir.Syntax.{w64}
 use Rattle.base.specs.Lists.{map_append}
-use Rattle.base.specs.Outcome.{over, lent, reported, written_to, stops_16, keeps, wrote, stands}
+use Rattle.base.specs.Outcome.{over, lent, reported, written_to}
+use Rattle.base.proofs.Outcome.{stops_16, keeps, wrote, stands}
 use Rattle.base.specs.declared.Written.TheVariants.{Wrote, Stop}
 use Rattle.base.specs.Splice.{splice, splice_none, splice_splice, length_splice}
 use Rattle.key.specs.Order.{Key}

@@ -12,7 +12,8 @@ use lib.Dec.{leb, ltb}
 use borrow.Author.Tests.{leb-true, ltb-true, le-leb, lt-ltb}
 use Rattle.base.specs.Lists.{All, Pairwise, All-map}
 use Rattle.base.specs.Pick.{and_first, and_second}
-use Rattle.base.specs.SortLaws.{decided, All-sort}
+use Rattle.base.specs.SortLaws.{decided}
+use Rattle.base.proofs.SortLaws.{All-sort}
 use Rattle.base.proofs.StableSort.{sort_is_stable, only_the_sort_is_stable}
 use Rattle.key.specs.Order.{Key, key_at_most, key_below}
 use Rattle.records.specs.Values.{Anchor, Anchors}

@@ -11,7 +11,8 @@ use lib.Dec.{leb, eqb}
 use borrow.Author.Tests.{leb-true, leb-false, eqb-true, le-leb, eq-eqb}
 use Rattle.base.specs.Lists.{All, Pairwise, All-map}
 use Rattle.base.specs.Sort.{insert, sort}
-use Rattle.base.specs.SortLaws.{decided, sort_sorted, length_sort}
+use Rattle.base.specs.SortLaws.{decided}
+use Rattle.base.proofs.SortLaws.{sort_sorted, length_sort}
 use Rattle.key.specs.Order.{Key, key_at_most, key_below}
 use Rattle.comparable_range.specs.Range.{unbounded}
 use Rattle.records.specs.Values.{Anchor, Anchors}

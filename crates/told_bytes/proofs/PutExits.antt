@@ -6,7 +6,8 @@ use mathlib.Core.Path.{◌≡◌, refl, sym, ap, ◌∙◌}
 use mathlib.Core.List.{List, [], ◌∷◌, ◌++◌, append_assoc}
 use lib.ListN.{length, length-append}
 use borrow.Author.Tests.{le-leb}
-use Rattle.base.specs.Outcome.{Outcome, answer, lent, reported, written_to, stops_16, keeps, wrote, stands}
+use Rattle.base.specs.Outcome.{Outcome, answer, lent, reported, written_to}
+use Rattle.base.proofs.Outcome.{stops_16, keeps, wrote, stands}
 use Rattle.base.specs.Splice.{splice, splice_splice}
 use Rattle.base.specs.declared.Written.{Written}
 use Rattle.base.specs.declared.Written.TheVariants.{Wrote, Stop}

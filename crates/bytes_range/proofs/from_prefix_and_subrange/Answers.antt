@@ -1,7 +1,7 @@
 -- `bytes_range::from_prefix_and_subrange` meets its contract, by its size and its writing.
 -- Assumes nothing.
 use Rattle.bytes_range.proofs.RangePut.{range_puts}
-use Rattle.base.specs.Outcome.{written_exits}
+use Rattle.base.proofs.Outcome.{written_exits}
 use borrow.Author.Rules.{rules}
 use Rattle.bytes_range.proofs.from_prefix_and_subrange.Goals as goal
 

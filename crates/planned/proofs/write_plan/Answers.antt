@@ -1,6 +1,6 @@
 -- `planned::write_plan` meets its contract.
 -- Assumes nothing.
-use Rattle.base.specs.Outcome.{written_exits}
+use Rattle.base.proofs.Outcome.{written_exits}
 use Rattle.planned.proofs.PlanPut.{at_front}
 use borrow.Author.Rules.{rules}
 use Rattle.planned.proofs.write_plan.Goals as goal

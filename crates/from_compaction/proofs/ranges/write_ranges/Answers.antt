@@ -1,6 +1,6 @@
 -- `from_compaction::ranges::write_ranges` meets its contract.
 -- Assumes nothing.
-use Rattle.base.specs.Outcome.{written_exits}
+use Rattle.base.proofs.Outcome.{written_exits}
 use Rattle.from_compaction.proofs.RangeExits.{write_exits}
 use borrow.Author.Rules.{rules}
 use Rattle.from_compaction.proofs.ranges.write_ranges.Goals as goal

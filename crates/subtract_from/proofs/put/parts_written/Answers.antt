@@ -1,6 +1,6 @@
 -- `subtract_from::put::parts_written` meets its contract.
 -- Assumes nothing.
-use Rattle.base.specs.Outcome.{written_exits}
+use Rattle.base.proofs.Outcome.{written_exits}
 use Rattle.subtract_from.proofs.PutExits.{parts_size, has_room}
 use borrow.Author.Rules.{rules}
 use Rattle.subtract_from.proofs.put.parts_written.Goals as goal
