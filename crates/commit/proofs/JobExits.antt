@@ -9,7 +9,7 @@ use lib.ListN.{length}
 use borrow.Author.Tests.{le-leb, lt-leb}
 use Rattle.base.specs.Pick.{pick, and_first, and_second}
 use Rattle.base.specs.Bytes.{Bytes}
-use Rattle.base.specs.Outcome.{answer, check, and_then, lent, written_to, reported}
+use Rattle.base.specs.Outcome.{answer, and_then, lent, written_to, reported}
 use Rattle.base.specs.Outcome as outcome
 use Rattle.base.specs.declared.Written.{Written}
 use Rattle.base.specs.declared.Written.TheVariants.{Stop}

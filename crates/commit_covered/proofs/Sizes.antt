@@ -21,7 +21,7 @@ use Rattle.format.specs.Range.{read_bound, read_range, headed, head_of}
 use Rattle.format.specs.declared.range.Head.{Head}
 use Rattle.format.specs.declared.range.Head.TheVariants.{Kinds, Stop as HeadStop}
 use Rattle.format.proofs.Layouts.{came}
-use Rattle.records.specs.Form.{Form, number, bytes, key, taken, seq, read_if, read_many, many}
+use Rattle.records.specs.Form.{Form, number, key, taken, seq, read_if, read_many, many}
 use Rattle.records.specs.Values.{Table, Part, Job}
 use Rattle.records.specs.Layouts.{flag_of, flag, count_of, up_to, outputs_of, output_count, counted, table_of, table, part_of, part, job}
 use Rattle.incremental_progress.specs.Jobs.{outputs}

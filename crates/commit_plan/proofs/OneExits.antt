@@ -16,7 +16,6 @@ use Rattle.manifest.specs.Checks.{has}
 use Rattle.commit_index.specs.declared.runs.IndexedRun.{IndexedRun}
 use Rattle.incremental_progress.specs.Gaps.{gap_entries, run_gaps}
 use Rattle.incremental_progress.specs.Plans.{run_draws}
-use Rattle.incremental_progress.specs.Plans as plans
 use Rattle.commit_rows.specs.Numbers.{run_numbers}
 use Rattle.commit_rows.specs.declared.runs.RunKind.{RunKind}
 use Rattle.commit_rows.specs.declared.runs.RunKind.TheVariants.{Other, Source, Destination}

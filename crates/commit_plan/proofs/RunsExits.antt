@@ -24,7 +24,6 @@ use Rattle.commit_index.specs.Index as index
 use Rattle.commit_index.specs.declared.runs.IndexedRun.{IndexedRun}
 use Rattle.incremental_progress.specs.Entries.{Entry, part_entries}
 use Rattle.incremental_progress.specs.Plans.{run_draws, draw_entries, view_count, views_length, runs_length, image_length, view_bytes, entry_bytes}
-use Rattle.incremental_progress.specs.Plans as plans
 use Rattle.incremental_progress.proofs.Checks.{all_each}
 use Rattle.incremental_progress.proofs.Plans.{length_more}
 use Rattle.incremental_progress.proofs.PlanBytes.{run_length}

@@ -20,7 +20,7 @@ use Rattle.commit_write.specs.Rows.{view_bytes}
 use Rattle.commit_write.specs.Buckets.{by_bucket, destination_rows}
 use Rattle.commit_write.specs.EachLaws.{each_length}
 use Rattle.commit_write.specs.BucketLaws.{by_length, by_each}
-use Rattle.commit_write.specs.Runs.{head_bytes, run_bytes, runs_bytes, new_image_bytes, planned, Bucketed}
+use Rattle.commit_write.specs.Runs.{head_bytes, run_bytes, runs_bytes, new_image_bytes, Bucketed}
 use Rattle.commit_write.proofs.RunExits.{other_bytes_lem, source_bytes_lem, destination_run_bytes}
 use Rattle.commit_write.proofs.Placed.{outputs_placed, pieces_placed, RowFor, buckets_are_gaps, destination_bytes_lem}
 

@@ -10,7 +10,7 @@ use mathlib.Core.List.{List, [], ◌∷◌}
 use Rattle.base.specs.Pick.{pick}
 use Rattle.key.specs.Order.{Key}
 use Rattle.comparable_range.specs.Range.{Bound, included, excluded, Range, non_empty, end_holds, holds}
-use Rattle.comparable_range.specs.Cut.{Cut, before, after, ◌≼◌, ◌≺◌, later, start_cut, end_cut}
+use Rattle.comparable_range.specs.Cut.{Cut, before, ◌≼◌, ◌≺◌, later, start_cut, end_cut}
 use Rattle.comparable_range.proofs.Cut.{order, ≼_refl, ≼_trans, ≺-≼, ≺-≼-trans, ≼-above, before-≺, before-≺-after, ≼-before}
 use Rattle.comparable_range.proofs.Lattice.{later_left, later_right, ≺-sooner}
 use Rattle.comparable_range.proofs.ByCuts.{end_holds_by_cuts, passes-≺, below-of-≺}

@@ -9,7 +9,7 @@ use mathlib.Core.Option.{some}
 use Rattle.base.specs.Pick.{pick}
 use Rattle.comparable_range.specs.declared.Sides.TheVariants.{Nothing, From}
 use Rattle.comparable_range.specs.Range.{Bound, unbounded, included, excluded, Range, of, cmp_bound, bounds_pass, non_empty, start_side, end_side, overlap, chosen, intersect_sides, intersect, meets}
-use Rattle.comparable_range.specs.Cut.{Cut, before, cut_below, ◌≼◌, ◌≺◌, later, sooner, start_cut, end_cut}
+use Rattle.comparable_range.specs.Cut.{Cut, cut_below, ◌≼◌, ◌≺◌, later, sooner, start_cut, end_cut}
 use Rattle.comparable_range.proofs.Cut.{order, ≼_trans, ≼-not-≺, ≺-≼-trans, ≼-≺-trans, before-≺}
 use Rattle.comparable_range.proofs.Lattice.{≼-later-left, sooner-≼-left, ≺-sooner}
 use Rattle.comparable_range.proofs.ByCuts.{start_side_cut, end_side_cut, passes_by_cuts, ≺-passes, ≺-of-below, ≼-of-not-below, not-below-of-≼, held_parts}

@@ -11,7 +11,7 @@ use Rattle.base.specs.Pick.{pick}
 use Rattle.base.specs.Lists.{All, All-map, All-append, Pairwise, Pairwise-append, map_append}
 use Rattle.key.specs.Order.{Key}
 use Rattle.comparable_range.specs.Range.{Bound, unbounded, included, excluded, Range, holds}
-use Rattle.comparable_range.specs.Cut.{Cut, below, after, cut_at_most, ◌≼◌, ◌≺◌, start_cut, end_cut}
+use Rattle.comparable_range.specs.Cut.{Cut, below, cut_at_most, ◌≼◌, ◌≺◌, start_cut, end_cut}
 use Rattle.comparable_range.proofs.Cut.{≼_trans, ≼_refl, ≺-≼, ≼-not-≺, before-≺-after}
 use Rattle.comparable_range.proofs.ByCuts.{held_parts, ≺-passes}
 use Rattle.records.specs.Values.{Part, Plan}
@@ -25,7 +25,7 @@ use Rattle.incremental_progress.proofs.Span.{both_true}
 use Rattle.incremental_progress.proofs.Checks.{job_parts}
 use Rattle.incremental_progress.proofs.LastKey.{written_outside}
 use Rattle.incremental_progress.proofs.ProgressLaws.{later_holds_more}
-use Rattle.incremental_progress.proofs.Job.{from_cut, to_cut, written, Planned, no_parts, with_part, Status, finished, nothing, ongoing, status}
+use Rattle.incremental_progress.proofs.Job.{from_cut, to_cut, Planned, no_parts, with_part, Status, finished, nothing, ongoing, status}
 use Rattle.from_compaction.specs.ProgressCalls.{from_compaction}
 use Rattle.from_compaction.specs.ProgressLaws.{DurableKeysAreHeldOnce, LastWrittenKeyIsInNone, LaterAnswersHoldMore, AtMostOneAPart, IntervalsAnsweredAscend, IntervalsAnsweredPass, CompletedPartsAnswerTheirPlan, UnfinishedPartsAnswerUpToTheirLastKey}
 

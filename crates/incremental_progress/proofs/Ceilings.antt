@@ -1,11 +1,8 @@
 -- Ceilings: what is within them in an image and a job, and that a commit's entries are.
 -- Assumes nothing.
-use Prim.Native.Nat.{ℕ, ◌^◌, ◌≤◌, ◌<◌}
-use mathlib.Core.Path.{◌≡◌}
 use mathlib.Core.Bool.{Bool, true, false}
 use mathlib.Core.Option.{Option, none, some}
 use mathlib.Core.List.{List, [], ◌∷◌, flat_map}
-use lib.ListN.{length}
 use Rattle.base.specs.Pick.{pick}
 use Rattle.key.specs.Order.{Key}
 use Rattle.comparable_range.specs.declared.Side.{Side}
@@ -14,10 +11,8 @@ use Rattle.comparable_range.specs.declared.Sides.{Sides}
 use Rattle.comparable_range.specs.declared.Sides.TheVariants.{Nothing, From}
 use Rattle.comparable_range.specs.Range.{Bound, unbounded, included, excluded, Range, of, start_side, end_side, overlap, chosen, intersect_sides, non_empty}
 use Rattle.format.specs.Laws.{KeyWithin, BoundWithin, RangeWithin}
-use Rattle.records.specs.Values.{Table, View, Run, Image, Part, Job}
-use Rattle.records.specs.Form.{Form, There, absent, present, range}
-use Rattle.records.specs.Form as form
-use Rattle.records.specs.Layouts.{is_there, table, view, run, image, part, job}
+use Rattle.records.specs.Values.{Table, View, Part}
+use Rattle.records.specs.Layouts.{table}
 use Rattle.records.proofs.Within.{If, TableKeys, table_keys, ViewWithin, PartWithin}
 use Rattle.manifest.specs.Ranges.{last_bound, own, effective, cut_by}
 use Rattle.incremental_progress.specs.Intervals.{Interval, listed, part_before, part_from, subtract_from, cut_out, start_bound, end_bound, to_range}

@@ -1,6 +1,6 @@
 -- A supply that is enough for a commit: for each id to draw ten bytes that do not make the old id.
 -- Assumes nothing.
-use Prim.Native.Nat.{ℕ, ◌+◌, ◌*◌, ◌/◌, ◌<◌}
+use Prim.Native.Nat.{ℕ, ◌*◌, ◌/◌, ◌<◌}
 use native.Mathlib.Omega.{arith}
 use mathlib.Core.Path.{◌≡◌, refl, sym, ap, ◌∙◌}
 use mathlib.Core.Bool.{Bool, true, false}
@@ -8,7 +8,6 @@ use mathlib.Core.List.{List, [], ◌∷◌, ◌++◌, flat_map, flatten, append_
 use lib.ListN.{length, take, drop, length-append}
 use lib.Seq.{take_at, drop_at}
 use Rattle.base.specs.Bytes.{Bytes, bytes_none, bytes_cons, bytes_append}
-use Rattle.base.specs.Pick.{pick}
 use Rattle.records.specs.Values.{View, Run, Image, Job}
 use Rattle.records.specs.declared.ids.ViewId.{ViewId}
 use Rattle.incremental_progress.specs.Views.{start}

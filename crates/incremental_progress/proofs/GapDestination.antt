@@ -14,13 +14,13 @@ use Rattle.records.specs.Values.{View, Part}
 use Rattle.manifest.specs.Ranges.{effective}
 use Rattle.manifest.specs.Checks.{all, table_passes, ascend_from, ascend, starts}
 use Rattle.incremental_progress.specs.Intervals.{Interval, cut_out}
-use Rattle.incremental_progress.specs.Views.{start, same_range}
+use Rattle.incremental_progress.specs.Views.{start}
 use Rattle.incremental_progress.proofs.Marked.{piece, marked}
 use Rattle.incremental_progress.specs.Parts.{intervals}
 use Rattle.incremental_progress.specs.Jobs.{is_output, others}
 use Rattle.incremental_progress.specs.Checks.{nothing_left, covered}
 use Rattle.incremental_progress.specs.Draws.{Ten, Drawn, used_up, got, next, fill_all}
-use Rattle.incremental_progress.specs.Entries.{whole, cut, piece_entry, view_entries, run_entries}
+use Rattle.incremental_progress.specs.Entries.{piece_entry, view_entries, run_entries}
 use Rattle.incremental_progress.specs.Gaps.{gaps, pieces, run_gaps, placed, by_gap, fill_parts}
 use Rattle.base.specs.Lists.{All, All-map, map_alike, map_flat_map, flat_map_alike}
 use Rattle.base.specs.Sort.{sort}

@@ -3,7 +3,7 @@
 -- Assumes nothing.
 use Prim.Native.Nat.{ℕ}
 use mathlib.Core.Path.{◌≡◌}
-use mathlib.Core.Option.{Option, none, some}
+use mathlib.Core.Option.{Option, some}
 use mathlib.Core.List.{List, [], ◌∷◌, ◌++◌, map, flat_map}
 use lib.Dec.{eqb}
 use lib.ListN.{length}
@@ -11,15 +11,15 @@ use Rattle.base.specs.Pick.{pick}
 use Rattle.base.specs.Sort.{sort}
 use Rattle.comparable_range.specs.Cut.{cut_at_most}
 use Rattle.key.specs.Order.{Key}
-use Rattle.comparable_range.specs.Range.{Range, non_empty, overlap}
+use Rattle.comparable_range.specs.Range.{Range}
 use Rattle.records.specs.Values.{Table, View, Run, Image, Part, Job}
 use Rattle.records.specs.declared.ids.ViewId.{ViewId}
-use Rattle.manifest.specs.Ranges.{own, effective}
+use Rattle.manifest.specs.Ranges.{effective}
 use Rattle.manifest.specs.Checks.{has}
-use Rattle.incremental_progress.specs.Intervals.{Interval, listed, to_range, cut_out}
+use Rattle.incremental_progress.specs.Intervals.{Interval, listed, cut_out}
 use Rattle.incremental_progress.specs.Ids.{time_of}
-use Rattle.incremental_progress.specs.Views.{start, same_range}
-use Rattle.incremental_progress.specs.Parts.{is_key, durable, intervals, identity, open_key}
+use Rattle.incremental_progress.specs.Views.{start}
+use Rattle.incremental_progress.specs.Parts.{durable, intervals, open_key}
 use Rattle.incremental_progress.specs.Entries.{Entry, whole, cut, piece_entry, output_entries}
 use Rattle.incremental_progress.specs.Jobs.{others}
 

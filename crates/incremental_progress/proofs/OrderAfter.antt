@@ -8,7 +8,7 @@ use lib.Dec.{eqb}
 use Rattle.base.specs.Pick.{pick, and_first}
 use Rattle.key.specs.Order.{Key, at_most, key_at_most}
 use Rattle.comparable_range.specs.Range.{Bound, included, Range, cmp_bound, holds}
-use Rattle.comparable_range.specs.Cut.{Cut, before, cut_at_most, ◌≼◌, ◌≺◌, start_cut}
+use Rattle.comparable_range.specs.Cut.{Cut, before, cut_at_most, ◌≼◌, start_cut}
 use Rattle.comparable_range.proofs.Cut.{≼_refl, ≼_trans, ≺-≼, after-≼}
 use Rattle.comparable_range.proofs.Lattice.{≼-later-right, sooner-≼-right}
 use Rattle.comparable_range.proofs.ByCuts.{cmp_start, start_injective, held_by_parts}

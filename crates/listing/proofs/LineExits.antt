@@ -6,7 +6,6 @@ use mathlib.Core.Path.{◌≡◌, refl, sym, ap, ◌∙◌}
 use mathlib.Core.List.{List, [], ◌∷◌, ◌++◌, append_assoc}
 use lib.ListN.{length, take, drop}
 use Rattle.base.specs.Splice.{splice}
-use Rattle.comparable_range.specs.Range.{Range}
 use Rattle.comparable_range.specs.declared.Kind.TheVariants.{Unbounded, Included, Excluded}
 use Rattle.format.specs.Range.{bound_in, range_in, BoundInside}
 use Rattle.format.specs.declared.range.BoundSpan.{BoundSpan}

@@ -12,8 +12,7 @@ use lib.ListN.{length, get_or, take, drop, set, length-set}
 use lib.Seq.{slice, slice-cons, slice_empty, take-suc-set}
 use lib.Dec.{eqb, leb}
 use borrow.Author.Tests.{leb-true, eq-eqb, ne_eqb}
-use Rattle.base.specs.Outcome.{Outcome, answer, check}
-use Rattle.base.specs.Outcome as outcome
+use Rattle.base.specs.Outcome.{answer, check}
 use Rattle.key.specs.Order.{at_most}
 use Rattle.comparable_range.specs.Range.{unbounded, cmp_bound}
 use Rattle.comparable_range.specs.declared.Kind.TheVariants.{Unbounded}

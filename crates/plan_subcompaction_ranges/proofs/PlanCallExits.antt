@@ -13,14 +13,13 @@ use Rattle.records.specs.Form.{read_many}
 use Rattle.records.specs.Found.{values_of}
 use Rattle.records.specs.Layouts.{image, index}
 use Rattle.manifest.specs.Checks.{all, image_checks}
-use Rattle.manifest.specs.Faults.{fault_of, least}
+use Rattle.manifest.specs.Faults.{fault_of}
 use Rattle.manifest.specs.Spans.{judged_whole, JudgedWhole}
 use Rattle.manifest.specs.declared.images.Judged.{Judged}
 use Rattle.manifest.specs.declared.images.Judged.TheVariants.{At as JudgedAt, Stop as JudgedStop}
 use Rattle.manifest.proofs.Given.{numbered, stopped_is, whole_read}
 use Rattle.subcompaction.specs.PlanCalls.{views, ranges_planned, plan_subcompaction_ranges_outcome}
 use Rattle.plan_subcompaction_ranges.specs.Walks.{ImageJudged, RowsEnough}
-use Rattle.plan_subcompaction_ranges.specs.declared.Walked.TheVariants.{All, Stop}
 use Rattle.plan_subcompaction_ranges.proofs.PlannerExits.{given, plan_after, written}
 
 -- ---- plan_judged

@@ -9,15 +9,14 @@ use mathlib.Core.Bool.{Bool, true, false}
 use mathlib.Core.List.{List, [], ◌∷◌, ◌++◌, append_assoc, append-nil}
 use lib.ListN.{length, length-append}
 use lib.Dec.{ltb, leb}
-use borrow.Author.Tests.{le-ltb, ltb-true, ltb-false, leb-true, leb-false}
-use Rattle.base.specs.Pick.{pick}
+use borrow.Author.Tests.{le-ltb, leb-true, leb-false}
 use Rattle.format.specs.Got.{Got, got, stop, and_then}
 use Rattle.records.specs.Form.{read_many}
-use Rattle.records.specs.Values.{View, Index, Anchors}
+use Rattle.records.specs.Values.{View, Index}
 use Rattle.records.specs.Layouts.{index}
 use Rattle.records.proofs.Many.{after}
 use Rattle.manifest.specs.Ranges.{effective}
-use Rattle.manifest.specs.Checks.{all, total, index_checks}
+use Rattle.manifest.specs.Checks.{all, index_checks}
 use Rattle.manifest.specs.Faults.{fault_of, least, ordered}
 use Rattle.manifest.proofs.AnchorExits.{by_test}
 use Rattle.manifest.proofs.Steps.{least_joined, all_more}

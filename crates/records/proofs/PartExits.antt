@@ -9,7 +9,6 @@ use lib.ListN.{length, drop, length-drop}
 use lib.Seq.{drop-drop}
 use lib.Dec.{leb, eqb}
 use borrow.Author.Tests.{le-leb, lt-leb, leb-true, leb-false}
-use Rattle.comparable_range.specs.Range.{Range}
 use Rattle.format.specs.Got.{Got, got, stop, and_then}
 use Rattle.format.specs.Number.{read_number}
 use Rattle.format.specs.Range.{read_range, RangeFound}

@@ -10,7 +10,6 @@ use mathlib.Core.List.{List}
 use lib.ListN.{length, get_or, take, drop, length-drop}
 use mir.Val.{Fits}
 use mir.Syntax.{w64}
-use Rattle.base.specs.Outcome as outcome
 use Rattle.key.specs.Order.{Key}
 use Rattle.key.specs.Word.{digits}
 use Rattle.format.specs.Got.{Got, got, stop, and_then}

@@ -6,7 +6,7 @@ use native.Mathlib.Omega.{arith}
 use mathlib.Core.Path.{◌≡◌, refl, sym, ap, ◌∙◌}
 use mathlib.Core.Bool.{Bool, true, false, false≢true}
 use mathlib.Core.List.{List, []}
-use lib.ListN.{length, take, drop}
+use lib.ListN.{length}
 use lib.Seq.{take_all}
 use lib.Dec.{T, leb}
 use borrow.Author.Tests.{le-leb, lt-leb}
@@ -37,7 +37,6 @@ use Rattle.db_state.specs.LookupCalls.{RangeAsked, checked_asked, image_and_rang
 use Rattle.sst_view.specs.Asked.{range_at, SpanInside, range_asked, range_outcome, RangeChecked, ImageRead, asked, AskedFound, image_end_and_range, EndFound}
 use Rattle.sst_view.specs.declared.asked.Asked.{Asked}
 use Rattle.sst_view.specs.declared.asked.Asked.TheVariants.{Range as AskedRange, Stop as AskedStop}
-use Rattle.sst_view.specs.declared.asked.EndAsked.{EndAsked}
 use Rattle.sst_view.specs.declared.asked.EndAsked.TheVariants.{At as EndAt, Stop as EndStop}
 
 -- ---- the checks of both

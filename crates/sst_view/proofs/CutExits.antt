@@ -4,7 +4,7 @@
 use Prim.Native.Nat.{ℕ}
 use mathlib.Core.Path.{◌≡◌, refl, sym, ap, ap₂, ◌∙◌}
 use mathlib.Core.Bool.{Bool, true, false}
-use mathlib.Core.Option.{Option, none, some}
+use mathlib.Core.Option.{Option}
 use mathlib.Core.List.{List}
 use Rattle.base.specs.Pick.{pick}
 use Rattle.base.specs.Outcome.{Outcome, answer}
@@ -22,7 +22,7 @@ use Rattle.format.specs.declared.span.JointSpan.{JointSpan}
 use Rattle.format.specs.declared.span.Met.{Met}
 use Rattle.format.specs.declared.span.Met.TheVariants.{Nothing, At}
 use Rattle.format.specs.declared.span.Joined.{Joined}
-use Rattle.format.specs.declared.span.Joined.TheVariants.{Range as JoinedRange, Nothing as NoRange, Stop as JoinedStop}
+use Rattle.format.specs.declared.span.Joined.TheVariants.{Range as JoinedRange}
 use Rattle.records.specs.Spans.{view_in, ViewInside}
 use Rattle.records.specs.declared.views.ViewSpan.{ViewSpan}
 use Rattle.manifest.specs.Ranges.{effective}

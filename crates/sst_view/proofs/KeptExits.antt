@@ -1,12 +1,11 @@
 -- What a view keeps of the asked range, by the view after it in its run.
 -- Assumes nothing.
-use Prim.Native.Nat.{ℕ, suc, ◌+◌, ◌<◌, ◌≤◌}
-use native.Mathlib.Omega.{arith}
+use Prim.Native.Nat.{ℕ, ◌+◌, ◌<◌, ◌≤◌}
 use mathlib.Core.Path.{◌≡◌, refl, sym, ap, ◌∙◌}
-use mathlib.Core.Option.{Option, none, some}
+use mathlib.Core.Option.{Option}
 use mathlib.Core.List.{List}
 use lib.ListN.{drop}
-use Rattle.base.specs.Outcome.{Outcome, answer, stop, and_then}
+use Rattle.base.specs.Outcome.{Outcome, and_then}
 use Rattle.comparable_range.specs.declared.Side.TheVariants.{First, Second}
 use Rattle.format.specs.Got.{Got}
 use Rattle.format.specs.Joint.{Joint, from}
@@ -27,7 +26,6 @@ use Rattle.records.specs.There.{ViewThere}
 use Rattle.records.specs.declared.views.ViewSpan.{ViewSpan}
 use Rattle.records.specs.declared.there.RunSpan.{RunSpan}
 use Rattle.manifest.specs.Spans.{EffectiveFound}
-use Rattle.db_state.specs.Places.{at as index_at, placed}
 use Rattle.db_state.specs.Lookup.{compacted_intersection}
 use Rattle.db_state.specs.LookupCalls.{views_at, image_and_range, compacted_intersection_outcome}
 use Rattle.sst_view.specs.Asked.{range_at, AskedFound}

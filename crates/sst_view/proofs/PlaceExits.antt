@@ -1,7 +1,6 @@
 -- What the walks over views and runs keep, and the exits of the functions that call a view by place.
 -- Assumes nothing.
-use Prim.Native.Nat.{ℕ, ◌+◌, ◌-◌, ◌<◌, ◌≤◌}
-use native.Mathlib.Omega.{arith}
+use Prim.Native.Nat.{ℕ, ◌+◌, ◌<◌, ◌≤◌}
 use mathlib.Core.Path.{◌≡◌, refl, sym, ap, ◌∙◌}
 use mathlib.Core.Option.{Option, none, some}
 use mathlib.Core.List.{List, [], ◌∷◌, ◌++◌}
@@ -9,21 +8,20 @@ use lib.ListN.{length, drop}
 use lib.Dec.{T}
 use Rattle.base.specs.Outcome.{Outcome, answer}
 use Rattle.base.specs.Outcome as outcome
-use Rattle.format.specs.Got.{Got, got, stop, and_then}
+use Rattle.format.specs.Got.{stop, and_then}
 use Rattle.format.specs.Whole.{whole}
 use Rattle.records.specs.Form.{read_many}
 use Rattle.records.specs.Found.{is_got, values_of}
 use Rattle.records.specs.Values.{View, Run, Image}
 use Rattle.records.specs.Layouts.{view, run, image}
-use Rattle.records.specs.Spans.{view_in, run_head}
+use Rattle.records.specs.Spans.{run_head}
 use Rattle.records.specs.There.{RunsThere, RunThere, ViewThere}
 use Rattle.records.specs.declared.views.ViewSpan.{ViewSpan}
 use Rattle.records.specs.declared.views.ViewRead.{ViewRead}
 use Rattle.records.specs.declared.views.ViewRead.TheVariants.{At as ViewAt, Stop as ViewStop}
 use Rattle.records.specs.declared.there.RunSpan.{RunSpan}
 use Rattle.records.proofs.Pasts.{Walked, past}
-use Rattle.records.proofs.Walk.{Walk, walk_begin, walk_all, walk_here, walk_onward}
-use Rattle.records.proofs.Forms.{read_many_length}
+use Rattle.records.proofs.Walk.{walk_begin, walk_here, walk_onward}
 use Rattle.records.proofs.HeadExits.{run_of}
 use Rattle.records.proofs.RunsThere.{head_got, there_views, there_past, there_most, there_here}
 use Rattle.manifest.specs.Checks.{image_checks}

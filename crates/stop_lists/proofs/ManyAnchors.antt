@@ -14,7 +14,6 @@ use Rattle.key.specs.Word.{digits}
 use Rattle.comparable_range.specs.Range.{cmp_bound, bounds_pass, start_holds, end_holds, holds, start_side, end_side, intersect_sides}
 use Rattle.format.specs.Number.{read_number, write_number}
 use Rattle.format.specs.Key.{read_bytes, read_key, write_key}
-use Rattle.format.specs.Range.{write_bound, write_range}
 use Rattle.format.specs.Whole.{whole}
 use Rattle.records.specs.Form.{Form, All, none_left, one_more, read_if, write_if, read_many, write_many, many}
 use Rattle.records.specs.Values.{View, Image, Block, Index}

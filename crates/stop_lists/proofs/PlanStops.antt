@@ -9,7 +9,7 @@ use Rattle.comparable_range.specs.Range.{non_empty}
 use Rattle.format.specs.Range.{read_range}
 use Rattle.format.specs.Whole.{whole}
 use Rattle.records.specs.Form.{read_many, many}
-use Rattle.records.specs.Layouts.{count_of, up_to, image, index, anchor, anchors, plan}
+use Rattle.records.specs.Layouts.{image, index, anchors, plan}
 use Rattle.manifest.specs.Checks.{has, joined, total, image_checks, index_checks, anchors_checks}
 use Rattle.partitioned_keyspace.specs.Asked.{asked_checks}
 use Rattle.subcompaction.specs.Boundaries.{select_boundaries}
@@ -17,7 +17,7 @@ use Rattle.subcompaction.specs.PlanCalls.{views, sampled, sampled_checks, anchor
 use Rattle.incremental_progress.specs.Repeated.{StopsIn}
 use Rattle.incremental_progress.proofs.Repeated.{answers}
 use Rattle.stop_lists.specs.Stops.{sample_anchors_stops, select_boundaries_stops, plan_subcompaction_ranges_stops}
-use Rattle.stop_lists.proofs.Stopping.{checks, and-then, written, ReadsKeys, FormStops, anchors_stops, index_stops, many_stops, whole_stops}
+use Rattle.stop_lists.proofs.Stopping.{checks, and-then, written, ReadsKeys, anchors_stops, index_stops, many_stops, whole_stops}
 use Rattle.stop_lists.proofs.GivenStops.{whole_range, three_listed, seven_listed, checked_stops, whole_image}
 
 -- ---- anchors

@@ -18,7 +18,6 @@ use Rattle.format.specs.Whole.{ended}
 use Rattle.format.specs.Laws.{KeyWithin, BoundWithin, RangeWithin}
 use Rattle.format.proofs.Layouts.{came, passed, bytes_only}
 use Rattle.records.specs.Form.{Form, number, range, read_many}
-use Rattle.records.specs.Form as form
 use Rattle.records.specs.Values.{Block, Index, Anchor, Anchors}
 use Rattle.records.specs.Layouts.{up_to, counted, block, index, anchor, anchors, plan}
 use Rattle.records.specs.Laws.{Lawful}

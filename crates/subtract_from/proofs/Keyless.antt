@@ -1,7 +1,7 @@
 -- The interval that holds no key.
 -- Assumes nothing.
 use mathlib.Core.Path.{◌≡◌, refl, sym, ◌∙◌}
-use mathlib.Core.Bool.{true, false, true≢false}
+use mathlib.Core.Bool.{true≢false}
 use mathlib.Core.List.{[], ◌∷◌}
 use Rattle.key.specs.Order.{cmp_key}
 use Rattle.comparable_range.specs.Range.{Bound, unbounded, included, excluded, Range, cmp_bound, bounds_pass, start_holds, end_holds, holds, start_side, end_side, overlap, intersect_sides}

@@ -15,7 +15,6 @@ use Rattle.base.specs.Pick.{and_first, and_second}
 use Rattle.base.specs.Outcome.{answer}
 use Rattle.base.specs.Lists.{All}
 use Rattle.key.specs.Order.{Key}
-use Rattle.comparable_range.specs.Range.{Range}
 use Rattle.records.specs.Values.{View, Image}
 use Rattle.manifest.specs.Ranges.{own, effective}
 use Rattle.manifest.specs.Checks.{all, size_passes, image_given}
@@ -24,7 +23,7 @@ use Rattle.db_state.specs.Places.{at, view_given}
 use Rattle.db_state.specs.LookupCalls.{views_at}
 use Rattle.sst_view.proofs.PlaceExits.{view_by_run}
 use Rattle.visible_size.specs.Numbers.{InPart}
-use Rattle.visible_size.specs.Sizes.{fraction_with_last, visible_fraction, raw_size, size_within, estimate_visible_size, estimate_run_visible_size}
+use Rattle.visible_size.specs.Sizes.{fraction_with_last, visible_fraction, raw_size, estimate_visible_size, estimate_run_visible_size}
 use Rattle.visible_size.proofs.NumbersWithin.{parts_lie_between}
 use Rattle.visible_size.proofs.SizeBounds.{view_size_is_at_least_one, view_size_is_at_most_raw}
 use Rattle.view_sizes.specs.SizeCalls.{visible_fraction_outcome, estimate_visible_size_outcome, estimate_run_visible_size_outcome}

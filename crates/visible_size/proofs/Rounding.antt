@@ -1,9 +1,9 @@
 -- Rounding goes to the nearest whole number, a half to the greater. Assumes nothing.
-use Rattle.std.proofs.Common.{◌≡◌, ℕ, ◌+◌, ◌*◌, ◌/◌, ◌<◌, ◌≤◌, mul-le-mul_right, div-lt_iff_lt-mul, div-mul-le_self, arith}
+use Rattle.std.proofs.Common.{ℕ, ◌+◌, ◌*◌, ◌/◌, ◌<◌, ◌≤◌, mul-le-mul_right, div-lt_iff_lt-mul, div-mul-le_self, arith}
 use lib.Ieee.{up, down}
 use lib.Ieee.Fits.{down_pos}
 use Rattle.visible_size.specs.Steps.{nearest_whole}
-use Rattle.visible_size.specs.SizeLaws.{Nearest, RoundsToTheNearest, OnlyOneIsNearest}
+use Rattle.visible_size.specs.SizeLaws.{RoundsToTheNearest, OnlyOneIsNearest}
 use Rattle.visible_size.proofs.Twice.{most_is, answer_value}
 
 -- q = a / d, and n = (q + 1) / 2

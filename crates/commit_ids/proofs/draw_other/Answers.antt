@@ -1,7 +1,6 @@
 -- `commit_ids::draw_other` meets its contract.
 -- Assumes nothing.
 use Rattle.commit_ids.proofs.SupplyExits.{drawing_exits}
-use Prim.Native.Nat.{◌-◌}
 use borrow.Author.Rules.{rules}
 use Rattle.commit_ids.proofs.draw_other.Goals as goal
 

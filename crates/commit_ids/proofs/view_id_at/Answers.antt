@@ -1,7 +1,6 @@
 -- `commit_ids::view_id_at` meets its contract.
 -- Assumes nothing.
 use Rattle.records.proofs.IdExits.{filled}
-use Prim.Native.Nat.{◌-◌}
 use borrow.Author.Rules.{rules}
 use Rattle.commit_ids.proofs.view_id_at.Goals as goal
 

@@ -1,7 +1,6 @@
 -- `commit_index::runs_indexed` meets its contract.
 -- Assumes nothing.
 use Rattle.commit_index.proofs.ImageExits.{runs_exits}
-use Prim.Native.Nat.{◌-◌}
 use borrow.Author.Rules.{rules}
 use Rattle.commit_index.proofs.runs_indexed.Goals as goal
 

@@ -1,7 +1,6 @@
 -- `key::agreed` meets its contract, by what its loop over 32 bytes a turn keeps.
 -- Assumes nothing.
 use Rattle.key.proofs.Words.{long}
-use Prim.Native.Nat.{◌-◌}
 use borrow.Author.Rules.{rules}
 use Rattle.key.proofs.agreed.Goals as goal
 

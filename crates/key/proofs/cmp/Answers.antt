@@ -1,7 +1,6 @@
 -- `key::cmp` meets its contract, by what its loop over eight bytes a turn keeps.
 -- Assumes nothing.
 use Rattle.key.proofs.Words.{kept}
-use Prim.Native.Nat.{◌-◌}
 use borrow.Author.Rules.{rules}
 use Rattle.key.proofs.cmp.Goals as goal
 

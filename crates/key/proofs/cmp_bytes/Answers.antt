@@ -1,7 +1,6 @@
 -- `key::cmp_bytes` meets its contract, by what its loop keeps.
 -- Assumes nothing.
 use Rattle.key.proofs.Passed.{kept}
-use Prim.Native.Nat.{◌-◌}
 use borrow.Author.Rules.{rules}
 use Rattle.key.proofs.cmp_bytes.Goals as goal
 

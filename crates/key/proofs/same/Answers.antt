@@ -1,7 +1,6 @@
 -- `key::same` meets its contract, by what its loop keeps.
 -- Assumes nothing.
 use Rattle.key.proofs.Words.{block}
-use Prim.Native.Nat.{◌-◌}
 use borrow.Author.Rules.{rules}
 use Rattle.key.proofs.same.Goals as goal
 

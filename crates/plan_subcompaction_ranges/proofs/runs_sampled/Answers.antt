@@ -1,6 +1,5 @@
 -- `plan_subcompaction_ranges::runs_sampled` meets its contract.
 -- Assumes nothing.
-use Prim.Native.Nat.{◌-◌}
 use Rattle.plan_subcompaction_ranges.proofs.WalkExits.{runs_exits}
 use borrow.Author.Rules.{rules}
 use Rattle.plan_subcompaction_ranges.proofs.runs_sampled.Goals as goal

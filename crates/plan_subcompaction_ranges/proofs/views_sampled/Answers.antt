@@ -1,6 +1,5 @@
 -- `plan_subcompaction_ranges::views_sampled` meets its contract.
 -- Assumes nothing.
-use Prim.Native.Nat.{◌-◌}
 use Rattle.plan_subcompaction_ranges.proofs.WalkExits.{views_exits}
 use borrow.Author.Rules.{rules}
 use Rattle.plan_subcompaction_ranges.proofs.views_sampled.Goals as goal

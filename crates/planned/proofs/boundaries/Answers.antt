@@ -1,6 +1,5 @@
 -- `planned::boundaries` meets its contract.
 -- Assumes nothing.
-use Prim.Native.Nat.{◌-◌}
 use native.Mathlib.Omega.{arith}
 use borrow.Author.Rules.{rules}
 use Rattle.planned.proofs.Walking.{walk_exits, one_key_marked, walk_keys, walk_bytes, walk_sum, walk_last, walk_there, mark_threshold, mark_more, no_mark}

@@ -1,6 +1,5 @@
 -- `planned::plan_size` meets its contract.
 -- Assumes nothing.
-use Prim.Native.Nat.{◌-◌}
 use borrow.Author.Rules.{rules}
 use Rattle.planned.proofs.PlanPut.{size_exits}
 use Rattle.planned.proofs.plan_size.Goals as goal

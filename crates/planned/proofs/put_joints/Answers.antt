@@ -1,6 +1,5 @@
 -- `planned::put_joints` meets its contract.
 -- Assumes nothing.
-use Prim.Native.Nat.{◌-◌}
 use Rattle.planned.proofs.PlanPut.{put_exits}
 use borrow.Author.Rules.{rules}
 use Rattle.planned.proofs.put_joints.Goals as goal

@@ -1,7 +1,6 @@
 -- `select_boundaries::anchors_read` meets its contract.
 -- Assumes nothing.
 use Rattle.select_boundaries.proofs.AnchorExits.{tabling_exits}
-use Prim.Native.Nat.{◌-◌}
 use borrow.Author.Rules.{rules}
 use Rattle.select_boundaries.proofs.anchors_read.Goals as goal
 

@@ -1,7 +1,6 @@
 -- `text::put_hex` meets its contract, by what its loop keeps.
 -- Assumes nothing.
 use Rattle.text.proofs.Puts.{spells}
-use Prim.Native.Nat.{◌-◌}
 use native.Mathlib.Omega.{arith}
 use borrow.Author.Rules.{rules}
 use Rattle.text.proofs.put_hex.Goals as goal

@@ -1,7 +1,6 @@
 -- `view_sizes::run_size` meets its contract.
 -- Assumes nothing.
 use Rattle.view_sizes.proofs.SizeExits.{sum_exits}
-use Prim.Native.Nat.{◌-◌}
 use borrow.Author.Rules.{rules}
 use Rattle.view_sizes.proofs.run_size.Goals as goal
 

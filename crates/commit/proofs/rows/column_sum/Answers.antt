@@ -1,6 +1,5 @@
 -- `commit::rows::column_sum` meets its contract.
 -- Assumes nothing.
-use Prim.Native.Nat.{◌-◌}
 use Rattle.commit.proofs.RowExits.{sum_exits}
 use borrow.Author.Rules.{rules}
 use Rattle.commit.proofs.rows.column_sum.Goals as goal

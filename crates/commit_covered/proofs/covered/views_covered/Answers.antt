@@ -1,6 +1,5 @@
 -- `commit_covered::covered::views_covered` meets its contract.
 -- Assumes nothing.
-use Prim.Native.Nat.{◌-◌}
 use Rattle.commit_covered.proofs.ViewExits.{shown_inside, shown_held, shown_behind, view_exits}
 use borrow.Author.Rules.{rules}
 use Rattle.commit_covered.proofs.covered.views_covered.Goals as goal

@@ -1,6 +1,5 @@
 -- `commit_covered::outputs::clear` meets its contract.
 -- Assumes nothing.
-use Prim.Native.Nat.{◌-◌}
 use Rattle.commit_covered.proofs.OutputExits.{clear_exits}
 use borrow.Author.Rules.{rules}
 use Rattle.commit_covered.proofs.outputs.clear.Goals as goal

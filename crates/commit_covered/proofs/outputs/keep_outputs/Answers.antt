@@ -1,6 +1,5 @@
 -- `commit_covered::outputs::keep_outputs` meets its contract.
 -- Assumes nothing.
-use Prim.Native.Nat.{◌-◌}
 use Rattle.commit_covered.proofs.OutputExits.{outputs_exits}
 use borrow.Author.Rules.{rules}
 use Rattle.commit_covered.proofs.outputs.keep_outputs.Goals as goal

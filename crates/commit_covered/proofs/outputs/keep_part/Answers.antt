@@ -1,6 +1,5 @@
 -- `commit_covered::outputs::keep_part` meets its contract.
 -- Assumes nothing.
-use Prim.Native.Nat.{◌-◌}
 use Rattle.commit_covered.proofs.OutputExits.{part_exits}
 use borrow.Author.Rules.{rules}
 use Rattle.commit_covered.proofs.outputs.keep_part.Goals as goal

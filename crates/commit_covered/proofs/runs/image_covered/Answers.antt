@@ -1,6 +1,5 @@
 -- `commit_covered::runs::image_covered` meets its contract.
 -- Assumes nothing.
-use Prim.Native.Nat.{◌-◌}
 use Rattle.commit_covered.proofs.RunExits.{runs_views, runs_exits}
 use borrow.Author.Rules.{rules}
 use Rattle.commit_covered.proofs.runs.image_covered.Goals as goal

@@ -1,6 +1,5 @@
 -- `commit_durable::gaps::gaps_of` meets its contract.
 -- Assumes nothing.
-use Prim.Native.Nat.{◌-◌}
 use Rattle.commit_durable.proofs.GapExits.{gaps_exits}
 use borrow.Author.Rules.{rules}
 use Rattle.commit_durable.proofs.gaps.gaps_of.Goals as goal

@@ -1,6 +1,5 @@
 -- `commit_durable::parts::parts_read` meets its contract.
 -- Assumes nothing.
-use Prim.Native.Nat.{◌-◌}
 use Rattle.commit_durable.proofs.PartExits.{parts_exits}
 use borrow.Author.Rules.{rules}
 use Rattle.commit_durable.proofs.parts.parts_read.Goals as goal

@@ -1,6 +1,5 @@
 -- `commit_gaps::next::first_gap` meets its contract.
 -- Assumes nothing.
-use Prim.Native.Nat.{◌-◌}
 use Rattle.commit_gaps.proofs.NextExits.{first_exits}
 use borrow.Author.Rules.{rules}
 use Rattle.commit_gaps.proofs.next.first_gap.Goals as goal

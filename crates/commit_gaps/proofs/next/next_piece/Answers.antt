@@ -1,6 +1,5 @@
 -- `commit_gaps::next::next_piece` meets its contract.
 -- Assumes nothing.
-use Prim.Native.Nat.{◌-◌}
 use Rattle.commit_gaps.proofs.NextExits.{next_exits}
 use borrow.Author.Rules.{rules}
 use Rattle.commit_gaps.proofs.next.next_piece.Goals as goal

@@ -1,7 +1,6 @@
 -- `commit_index::id_among` meets its contract.
 -- Assumes nothing.
 use Rattle.commit_index.proofs.ImageExits.{among_exits}
-use Prim.Native.Nat.{◌-◌}
 use borrow.Author.Rules.{rules}
 use Rattle.commit_index.proofs.runs.id_among.Goals as goal
 

@@ -1,7 +1,6 @@
 -- `commit_outputs::parts::plan_outputs` meets its contract.
 -- Assumes nothing.
 use Rattle.commit_outputs.proofs.PartsExits.{parts_exits}
-use Prim.Native.Nat.{◌-◌}
 use borrow.Author.Rules.{rules}
 use Rattle.commit_outputs.proofs.parts.plan_outputs.Goals as goal
 

@@ -1,7 +1,6 @@
 -- `commit_outputs::parts::plan_part` meets its contract.
 -- Assumes nothing.
 use Rattle.commit_outputs.proofs.PartExits.{part_exits}
-use Prim.Native.Nat.{◌-◌}
 use borrow.Author.Rules.{rules}
 use Rattle.commit_outputs.proofs.parts.plan_part.Goals as goal
 

@@ -1,7 +1,6 @@
 -- `commit_plan::plan::plan_runs` meets its contract.
 -- Assumes nothing.
 use Rattle.commit_plan.proofs.RunsExits.{runs_exits}
-use Prim.Native.Nat.{◌-◌}
 use borrow.Author.Rules.{rules}
 use Rattle.commit_plan.proofs.plan.plan_runs.Goals as goal
 

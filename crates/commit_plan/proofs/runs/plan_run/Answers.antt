@@ -1,7 +1,6 @@
 -- `commit_plan::runs::plan_run` meets its contract.
 -- Assumes nothing.
 use Rattle.commit_plan.proofs.RunExits.{run_exits}
-use Prim.Native.Nat.{◌-◌}
 use borrow.Author.Rules.{rules}
 use Rattle.commit_plan.proofs.runs.plan_run.Goals as goal
 

@@ -1,7 +1,6 @@
 -- `commit_plan::views::plan_view` meets its contract.
 -- Assumes nothing.
 use Rattle.commit_plan.proofs.ViewExits.{view_exits}
-use Prim.Native.Nat.{◌-◌}
 use borrow.Author.Rules.{rules}
 use Rattle.commit_plan.proofs.views.plan_view.Goals as goal
 

@@ -1,7 +1,6 @@
 -- `commit_write::rows::put_in_order` meets its contract.
 -- Assumes nothing.
 use Rattle.commit_write.proofs.Writing.{order_exits}
-use Prim.Native.Nat.{◌-◌}
 use borrow.Author.Rules.{rules}
 use Rattle.commit_write.proofs.rows.put_in_order.Goals as goal
 

@@ -1,7 +1,6 @@
 -- `commit_write::rows::put_rows` meets its contract.
 -- Assumes nothing.
 use Rattle.commit_write.proofs.Writing.{rows_exits}
-use Prim.Native.Nat.{◌-◌}
 use borrow.Author.Rules.{rules}
 use Rattle.commit_write.proofs.rows.put_rows.Goals as goal
 

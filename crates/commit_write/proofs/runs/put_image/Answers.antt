@@ -1,6 +1,5 @@
 -- `commit_write::runs::put_image` meets its contract.
 -- Assumes nothing.
-use Prim.Native.Nat.{◌-◌}
 use Rattle.commit_write.proofs.ImageExits.{image_exits, putting_writable}
 use borrow.Author.Rules.{rules}
 use Rattle.commit_write.proofs.runs.put_image.Goals as goal

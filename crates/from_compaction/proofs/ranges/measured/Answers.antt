@@ -1,6 +1,5 @@
 -- `from_compaction::ranges::measured` meets its contract.
 -- Assumes nothing.
-use Prim.Native.Nat.{◌-◌}
 use Rattle.from_compaction.proofs.RangeExits.{measure_exits}
 use borrow.Author.Rules.{rules}
 use Rattle.from_compaction.proofs.ranges.measured.Goals as goal

@@ -1,6 +1,5 @@
 -- `from_compaction::ranges::put_ranges` meets its contract.
 -- Assumes nothing.
-use Prim.Native.Nat.{◌-◌}
 use Rattle.from_compaction.proofs.RangeExits.{put_exits}
 use borrow.Author.Rules.{rules}
 use Rattle.from_compaction.proofs.ranges.put_ranges.Goals as goal

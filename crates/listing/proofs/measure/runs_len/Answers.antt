@@ -1,7 +1,6 @@
 -- `listing::runs_len` meets its contract.
 -- Assumes nothing.
 use Rattle.listing.proofs.Loops.{runs_len_exits}
-use Prim.Native.Nat.{◌-◌}
 use borrow.Author.Rules.{rules}
 use Rattle.listing.proofs.measure.runs_len.Goals as goal
 

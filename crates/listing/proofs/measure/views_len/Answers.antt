@@ -1,7 +1,6 @@
 -- `listing::views_len` meets its contract.
 -- Assumes nothing.
 use Rattle.listing.proofs.Loops.{views_len_exits}
-use Prim.Native.Nat.{◌-◌}
 use borrow.Author.Rules.{rules}
 use Rattle.listing.proofs.measure.views_len.Goals as goal
 

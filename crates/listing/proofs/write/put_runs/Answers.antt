@@ -1,7 +1,6 @@
 -- `listing::put_runs` meets its contract.
 -- Assumes nothing.
 use Rattle.listing.proofs.Loops.{runs_put_exits}
-use Prim.Native.Nat.{◌-◌}
 use borrow.Author.Rules.{rules}
 use Rattle.listing.proofs.write.put_runs.Goals as goal
 

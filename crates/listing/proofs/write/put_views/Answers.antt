@@ -1,7 +1,6 @@
 -- `listing::put_views` meets its contract.
 -- Assumes nothing.
 use Rattle.listing.proofs.Loops.{views_put_exits}
-use Prim.Native.Nat.{◌-◌}
 use borrow.Author.Rules.{rules}
 use Rattle.listing.proofs.write.put_views.Goals as goal
 

@@ -1,7 +1,6 @@
 -- `manifest::runs_judged` meets its contract.
 -- Assumes nothing.
 use Rattle.manifest.proofs.ImageExits.{runs_exits}
-use Prim.Native.Nat.{◌-◌}
 use borrow.Author.Rules.{rules}
 use Rattle.manifest.proofs.images.runs_judged.Goals as goal
 

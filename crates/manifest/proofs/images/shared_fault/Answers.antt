@@ -1,7 +1,6 @@
 -- `manifest::shared_fault` meets its contract.
 -- Assumes nothing.
 use Rattle.manifest.proofs.ImageExits.{shared_exits}
-use Prim.Native.Nat.{◌-◌}
 use borrow.Author.Rules.{rules}
 use Rattle.manifest.proofs.images.shared_fault.Goals as goal
 

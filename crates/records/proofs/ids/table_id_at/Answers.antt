@@ -1,7 +1,6 @@
 -- `records::table_id_at` meets its contract.
 -- Assumes nothing.
 use Rattle.records.proofs.IdExits.{filled}
-use Prim.Native.Nat.{◌-◌}
 use borrow.Author.Rules.{rules}
 use Rattle.records.proofs.ids.table_id_at.Goals as goal
 

@@ -1,7 +1,6 @@
 -- `records::blocks_past` meets its contract.
 -- Assumes nothing.
 use Rattle.records.proofs.Pasts.{block_walk}
-use Prim.Native.Nat.{◌-◌}
 use borrow.Author.Rules.{rules}
 use Rattle.records.proofs.there.blocks_past.Goals as goal
 

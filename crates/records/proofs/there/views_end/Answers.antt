@@ -1,7 +1,6 @@
 -- `records::views_end` meets its contract.
 -- Assumes nothing.
 use Rattle.records.proofs.Pasts.{view_walk}
-use Prim.Native.Nat.{◌-◌}
 use borrow.Author.Rules.{rules}
 use Rattle.records.proofs.there.views_end.Goals as goal
 

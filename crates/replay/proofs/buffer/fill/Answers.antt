@@ -1,7 +1,6 @@
 -- `replay::fill` is safe and ends: the buffer keeps its length, and the measure is what is left of it.
 -- Assumes nothing.
 use Rattle.replay.proofs.Parts.{lengths}
-use Prim.Native.Nat.{◌-◌}
 use borrow.Author.Rules.{rules}
 use Rattle.replay.proofs.buffer.fill.Goals as goal
 

@@ -1,7 +1,6 @@
 -- `replay::is_unwritten` meets its contract.
 -- Assumes nothing.
 use Rattle.replay.proofs.Kept.{unwritten_exits}
-use Prim.Native.Nat.{◌-◌}
 use borrow.Author.Rules.{rules}
 use Rattle.replay.proofs.buffer.is_unwritten.Goals as goal
 

@@ -1,6 +1,5 @@
 -- `sample_anchors::put::anchors_len` meets its contract.
 -- Assumes nothing.
-use Prim.Native.Nat.{◌-◌}
 use borrow.Author.Rules.{rules}
 use Rattle.sample_anchors.proofs.PutExits.{len_exits}
 use Rattle.sample_anchors.proofs.put.anchors_len.Goals as goal

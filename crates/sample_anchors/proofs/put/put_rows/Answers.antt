@@ -1,6 +1,5 @@
 -- `sample_anchors::put::put_rows` meets its contract.
 -- Assumes nothing.
-use Prim.Native.Nat.{◌-◌}
 use Rattle.sample_anchors.proofs.PutExits.{put_rows_exits}
 use borrow.Author.Rules.{rules}
 use Rattle.sample_anchors.proofs.put.put_rows.Goals as goal

@@ -1,7 +1,6 @@
 -- `sorted_run::tables::put_places` meets its contract.
 -- Assumes nothing.
 use Rattle.sorted_run.proofs.LeadExits.{put_exits}
-use Prim.Native.Nat.{◌-◌}
 use borrow.Author.Rules.{rules}
 use Rattle.sorted_run.proofs.tables.put_places.Goals as goal
 

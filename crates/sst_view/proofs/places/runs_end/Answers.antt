@@ -1,7 +1,6 @@
 -- `sst_view::places::runs_end` meets its contract.
 -- Assumes nothing.
 use Rattle.sst_view.proofs.PlaceExits.{run_walk}
-use Prim.Native.Nat.{◌-◌}
 use borrow.Author.Rules.{rules}
 use Rattle.sst_view.proofs.places.runs_end.Goals as goal
 

@@ -1,6 +1,6 @@
 -- `visible_size::keys::common_prefix_len` meets its contract, by what its loop keeps.
 -- Assumes nothing.
-use Rattle.std.proofs.Common.{◌-◌, rules}
+use Rattle.std.proofs.Common.{rules}
 use Rattle.visible_size.proofs.Prefixes.{alike_exits}
 use Rattle.visible_size.proofs.keys.common_prefix_len.Goals as goal
 

@@ -1,6 +1,6 @@
 -- `visible_size::keys::key_fraction` meets its contract.
 -- Assumes nothing.
-use Rattle.std.proofs.Common.{◌-◌, rules}
+use Rattle.std.proofs.Common.{rules}
 use Rattle.visible_size.proofs.KeyNumbers.{counted}
 use Rattle.visible_size.proofs.keys.key_fraction.Goals as goal
 
