@@ -1,4 +1,5 @@
-//! Finds libbilqarush_c.a, and has `bindings/archive` make it if the repository has none yet: about eight minutes on two cores.
+//! Finds libbilqarush_c.a, and has `bindings/archive` make it if the repository has none yet: some minutes where the crates below
+//! it are proved.
 //!
 //! Cargo shows nothing of a build script before it ends, so what is waited for is said on the terminal, if there is one.
 use std::env;
@@ -41,17 +42,14 @@ fn of_repository() -> PathBuf {
     let root = Path::new("../..").canonicalize().unwrap();
     let dir = root.join("target/staticlib");
     let archive = dir.join(ARCHIVE);
-    // The comparison below is made anew when a source changes.
-    println!(
-        "cargo::rerun-if-changed={}",
-        root.join("crates.txt").display()
-    );
-    println!("cargo::rerun-if-changed={}", root.join("crates").display());
+    // The comparison below is made anew when a source changes. What rt makes, in out/ of each crate, is no source.
+    for source in source_folders(&root) {
+        println!("cargo::rerun-if-changed={}", source.display());
+    }
     if !archive.is_file() {
         if links_nothing() {
             warn(&format!(
-                "there is no target/staticlib/{ARCHIVE}, and this goes on without: what links makes it, in about eight minutes on \
-                 two cores"
+                "there is no target/staticlib/{ARCHIVE}, and this goes on without: what links makes it, in some minutes"
             ));
             return dir;
         }
@@ -126,10 +124,23 @@ fn run_archive(root: &Path) -> std::io::Result<ExitStatus> {
     archive.wait()
 }
 
+/// crates.txt, the folder of the crates, and in each of them the folders of its sources.
+fn source_folders(root: &Path) -> Vec<PathBuf> {
+    let mut folders = vec![root.join("crates.txt")];
+    for entry in fs::read_dir(root.join("crates")).into_iter().flatten() {
+        let Ok(entry) = entry else { continue };
+        let parts = ["src", "specs", "proofs"].map(|part| entry.path().join(part));
+        folders.extend(parts.into_iter().filter(|part| part.is_dir()));
+    }
+    folders.sort();
+    folders
+}
+
 /// The first source, in the order of names, that is newer than the archive.
 fn newer(root: &Path, archive: &Path) -> Option<PathBuf> {
     let made = modified(archive)?;
-    let mut rest = vec![root.join("crates"), root.join("crates.txt")];
+    let mut rest = source_folders(root);
+    rest.reverse();
     while let Some(path) = rest.pop() {
         if path.is_dir() {
             let mut inside: Vec<_> = fs::read_dir(&path)

@@ -1,6 +1,6 @@
 //! What ends a command before it has an answer.
 use crate::input::Input;
-use bilqarush::{Refusal, Stop};
+use bilqarush::typed::{Refusal, Stop};
 use std::fmt;
 
 /// Why a command has no answer.

@@ -2,7 +2,7 @@
 use crate::failure::{Failure, Report};
 use crate::kind::{line_of, Kind, Unmade};
 use crate::text::{key, range};
-use bilqarush::{Item, Place, Range, Stop};
+use bilqarush::typed::{Item, Place, Range, Stop};
 use std::ffi::OsStr;
 use std::fs::File;
 use std::io::{self, Read};

@@ -1,6 +1,6 @@
 //! The kinds of input: from text to bytes, back, and what the library says of the bytes.
 use crate::text::{read, write, Read, TextError};
-use bilqarush::{
+use bilqarush::typed::{
     explain, Anchors, AnchorsBytes, Buffer, Image, ImageBytes, Index, IndexBytes, Indexes,
     IndexesBytes, Item, Job, JobBytes, Plan, Range, RangeBytes, Refusal, Stop,
 };

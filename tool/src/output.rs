@@ -3,7 +3,7 @@ use crate::failure::Failure;
 use crate::input::is_text;
 use crate::kind::Kind;
 use crate::text::write;
-use bilqarush::Range;
+use bilqarush::typed::Range;
 use std::ffi::{OsStr, OsString};
 use std::fs::{self, File, OpenOptions};
 use std::io::{self, IsTerminal, Write};

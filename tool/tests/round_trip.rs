@@ -1,7 +1,7 @@
 //! Text, values and bytes: each from each, and back.
 mod common;
 
-use bilqarush::{Index, Indexes, Stop};
+use bilqarush::typed::{Index, Indexes, Stop};
 use bilqarush_tool::kind::Kind;
 use bilqarush_tool::text::{key, read, write};
 use common::random::Random;

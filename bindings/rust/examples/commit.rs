@@ -2,7 +2,7 @@
 //! more versions of it may still be to come.
 //!
 //!     cargo run --example commit
-use bilqarush::*;
+use bilqarush::typed::*;
 use std::fs::File;
 use std::io::Read;
 

@@ -1,7 +1,7 @@
 //! Lists the image in a file, or says what is wrong with it and where.
 //!
 //!     cargo run --example list FILE
-use bilqarush::{explain, list_to_string, ImageBytes};
+use bilqarush::typed::{explain, list_to_string, ImageBytes};
 use std::process::ExitCode;
 use std::{env, fs};
 

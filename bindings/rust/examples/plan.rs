@@ -1,7 +1,7 @@
 //! Splits the keys of an index into ranges of about equal bytes, which together hold each key exactly once.
 //!
 //!     cargo run --example plan
-use bilqarush::*;
+use bilqarush::typed::*;
 
 fn main() -> Result<(), Stop> {
     // A block of 4,096 bytes for each of 16 lamps; the data end at 65,536.

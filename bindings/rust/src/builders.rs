@@ -1,13 +1,13 @@
 //! Values, put together step by step.
+use crate::typed::Range;
 use crate::values::*;
-use crate::Range;
 use alloc::vec::Vec;
 
 impl Table {
     /// A table from its first key on, without a last key; its numbers are 0.
     ///
     /// ```
-    /// use bilqarush::{Table, TableId};
+    /// use bilqarush::typed::{Table, TableId};
     /// let table = Table::new(TableId(1), "lamp/1").with_last_key("lamp/8").with_index(4096, 256);
     /// assert_eq!(table.last_key.as_deref(), Some(&b"lamp/8"[..]));
     /// ```
@@ -76,7 +76,7 @@ impl Image {
     /// An image of runs.
     ///
     /// ```
-    /// use bilqarush::{check_image, Image, ImageBytes, Run, Table, TableId, View, ViewId};
+    /// use bilqarush::typed::{check_image, Image, ImageBytes, Run, Table, TableId, View, ViewId};
     /// let one = Table::new(TableId(1), "a").with_last_key("c");
     /// let two = Table::new(TableId(2), "d");
     /// let image = Image::new([Run::new(7, [View::new(ViewId(1), one), View::new(ViewId(2), two)])]);

@@ -1,5 +1,5 @@
 //! Bounds as places in the order of keys.
-use crate::Range;
+use crate::typed::Range;
 use core::ops::Bound;
 
 /// A place between keys: below all, before or after a key, above all. A start and an end have one order in this form, and a

@@ -3,12 +3,12 @@ use crate::answer::fresh;
 use crate::checks;
 use crate::reader::Reader;
 use crate::refusal::{Buffer, Refusal};
-use crate::values::{Anchors, Image, Index, Indexes, Job};
-use crate::{
+use crate::typed::{
     check_image, commit, contains, from_compaction, partition_point, plan_subcompaction_ranges,
     select_boundaries, AnchorsBytes, ImageBytes, IndexBytes, IndexesBytes, JobBytes, Range,
     RangeBytes, Stop, Test,
 };
+use crate::values::{Anchors, Image, Index, Indexes, Job};
 use crate::{DURABLE_LEN, IMAGE_LEN, PLAN_LEN};
 use alloc::vec;
 use alloc::vec::Vec;
@@ -17,7 +17,8 @@ use alloc::vec::Vec;
 pub trait Explained: Copy + sealed::Sealed {}
 
 mod sealed {
-    use crate::{Refusal, Stop};
+    use crate::typed::Refusal;
+    use crate::Stop;
 
     pub trait Sealed {
         /// The stop of the proved call that judges such bytes alone.
@@ -32,7 +33,7 @@ mod sealed {
 /// [`select_boundaries`], of a range [`contains`].
 ///
 /// ```
-/// use bilqarush::{explain, ImageBytes, Stop};
+/// use bilqarush::typed::{explain, ImageBytes, Stop};
 /// let two_runs_of_one_id = [2, 0, 0, 0, 7, 0, 0, 0, 0, 0, 7, 0, 0];
 /// let refusal = explain(ImageBytes(&two_runs_of_one_id)).unwrap();
 /// assert_eq!(refusal.stop, Stop::Order);

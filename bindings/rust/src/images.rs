@@ -1,15 +1,12 @@
 //! Images, their listing, and the commit.
-use crate::answer::{bound, fresh, written};
+use crate::answer::{bound, written};
 use crate::raw;
-use crate::{ImageBytes, JobBytes, Range, Stop, IMAGE_LEN};
-use alloc::string::String;
-use alloc::vec::Vec;
+use crate::{Range, Stop};
 
 /// Whether bytes are an image, which the other calls on images then take.
 ///
-/// # Errors
-/// Stops 3 (length), 1 to 3 in the fields of `image`; 4; 5; 6; 7.
-pub fn check_image(image: ImageBytes) -> Result<(), Stop> {
+/// Stops: 3 (length), 1 to 3 in the fields of `image`; 4; 5; 6; 7.
+pub fn check_image(image: &[u8]) -> Result<(), Stop> {
     // SAFETY: the slice is lent whole.
     Stop::told(unsafe { raw::bilqarush_check_image(image.as_ptr(), image.len()) })
 }
@@ -17,13 +14,8 @@ pub fn check_image(image: ImageBytes) -> Result<(), Stop> {
 /// The effective range of a view: its table's own range, cut by its visible range. Its keys are parts of `image`. `run`
 /// is the run's place in the image and `view` the view's place in its run, both from 0.
 ///
-/// # Errors
-/// Stops as [`check_image`]; 9.
-pub fn compacted_effective_range(
-    image: ImageBytes<'_>,
-    run: usize,
-    view: usize,
-) -> Result<Range<&[u8]>, Stop> {
+/// Stops: as [`check_image`]; 9.
+pub fn compacted_effective_range(image: &[u8], run: usize, view: usize) -> Result<Range<'_>, Stop> {
     let mut out = [0; raw::BILQARUSH_VIEW_RANGE_LEN];
     // SAFETY: the slices are lent whole, and what is written is this function's own.
     let answer = written(&mut out, |to, room, length| unsafe {
@@ -38,52 +30,29 @@ pub fn compacted_effective_range(
         )
     })?;
     Ok(Range {
-        start: bound(answer[0], image.0, &answer[1..17]),
-        end: bound(answer[17], image.0, &answer[18..34]),
+        start: bound(answer[0], image, &answer[1..17]),
+        end: bound(answer[17], image, &answer[18..34]),
     })
 }
 
 /// Writes the listing of an image, text in ASCII, to the front of `out` and answers that front: a header, then a line for
 /// each view with its run's id, its place, its table's id and its effective range.
 ///
-/// # Errors
-/// Stops as [`check_image`]; 16. [`LISTING_LEN`](crate::LISTING_LEN) bytes are always enough, and so are 25 and twice
+/// Stops: as [`check_image`]; 16. [`LISTING_LEN`](crate::LISTING_LEN) bytes are always enough, and so are 25 and twice
 /// the image's length.
 ///
 /// ```
-/// use bilqarush::{list, ImageBytes};
-/// let no_runs = ImageBytes(&[0]);
+/// let no_runs = [0];
 /// let mut out = [0; 64];
-/// assert_eq!(list(no_runs, &mut out)?, "run view table start end\n");
+/// let listing = bilqarush::list(&no_runs, &mut out)?;
+/// assert_eq!(listing, b"run view table start end\n");
 /// # Ok::<(), bilqarush::Stop>(())
 /// ```
-pub fn list<'o>(image: ImageBytes, out: &'o mut [u8]) -> Result<&'o str, Stop> {
+pub fn list<'o>(image: &[u8], out: &'o mut [u8]) -> Result<&'o mut [u8], Stop> {
     // SAFETY: the slices are lent whole, and `out` is borrowed alone.
-    let listing = written(out, |to, room, length| unsafe {
+    written(out, |to, room, length| unsafe {
         raw::bilqarush_list(image.as_ptr(), image.len(), to, room, length)
-    })?;
-    Ok(core::str::from_utf8(listing).expect("a listing is ASCII"))
-}
-
-/// [`list`] into a buffer of its own.
-///
-/// # Errors
-/// Stops as [`check_image`].
-///
-/// ```
-/// use bilqarush::{list_to_string, Image, ImageBytes, Run, Table, TableId, View, ViewId};
-/// let table = Table::new(TableId(1), "a").with_last_key("c");
-/// let image = Image::new([Run::new(7, [View::new(ViewId(1), table)])]);
-/// assert_eq!(
-///     list_to_string(ImageBytes(&image.to_bytes()?))?,
-///     "run view table start end\n7 0 00000000000000000000000000000001 [61 63]\n"
-/// );
-/// # Ok::<(), bilqarush::Stop>(())
-/// ```
-pub fn list_to_string(image: ImageBytes) -> Result<String, Stop> {
-    // The header, and no line is longer than twice its view.
-    let mut out = alloc::vec![0; 25 + 2 * image.len()];
-    list(image, &mut out).map(String::from)
+    })
 }
 
 /// The commit of a compaction's record, finished or not. Writes to the front of `out`, and answers, the image in which
@@ -91,39 +60,28 @@ pub fn list_to_string(image: ImageBytes) -> Result<String, Stop> {
 /// Durable is the planned range of a completed part; of an unfinished one, its planned range up to, without, the last key
 /// of its last output, and nothing if it has no output or that key is its start.
 ///
-/// A new view id keeps the 48 bits of time of the old one and takes the next 10 bytes of `ids`, and 10 more as often as that makes
-/// the old id again. Cut outputs draw first, in job order, then the views of source runs, in image order. Give random bytes that
-/// are fresh for each commit; [`IDS_LEN`](crate::IDS_LEN) of them are enough. The call takes about 120 KB of stack.
+/// A new view id keeps the 48 bits of time of the old one and takes the next 10 bytes of `ids`, and 10 more if that makes
+/// the old id again. Cut outputs draw first, in job order, then the views of source runs, in image order. The call takes
+/// about 120 KB of stack.
 ///
-/// # Errors
-/// Stops 3 (length), 1 to 3 in the fields of `image`, then of `job`; 4, 5, 6 and 7, each over both before the next; 8; 9;
+/// Stops: 3 (length), 1 to 3 in the fields of `image`, then of `job`; 4, 5, 6 and 7, each over both before the next; 8; 9;
 /// 10; 11; 12; 14; 15; 16. [`IMAGE_LEN`](crate::IMAGE_LEN) bytes of `out` are always enough.
 ///
 /// ```
-/// use bilqarush::{commit, Image, ImageBytes, Job, JobBytes, Run};
 /// // Run 7 without views; a job from it to itself, with no parts.
-/// let image = Image::new([Run::new(7, [])]).to_bytes()?;
-/// let job = Job::new(7, [7]).to_bytes()?;
+/// let image = [1, 0, 0, 0, 7, 0, 0];
+/// let job = [0, 0, 0, 7, 1, 0, 0, 0, 7, 0];
 /// let mut out = [0; 64];
-/// assert_eq!(commit(ImageBytes(&image), JobBytes(&job), &[], &mut out)?, image);
+/// assert_eq!(bilqarush::commit(&image, &job, &[], &mut out)?, image);
 ///
-/// let no_sources = Job::new(7, []).to_bytes()?;
-/// let stop = commit(ImageBytes(&image), JobBytes(&no_sources), &[], &mut out).unwrap_err();
+/// let no_sources = [0, 0, 0, 7, 0, 0];
+/// let stop = bilqarush::commit(&image, &no_sources, &[], &mut out).unwrap_err();
 /// assert_eq!(stop.to_string(), "stop 8: the destination is not a source");
 /// # Ok::<(), bilqarush::Stop>(())
 /// ```
-///
-/// An image and a job cannot be exchanged:
-///
-/// ```compile_fail,E0308
-/// # use bilqarush::{commit, ImageBytes, JobBytes};
-/// # let (image, job, mut out) = ([0], [0], [0; 64]);
-/// commit(JobBytes(&job), ImageBytes(&image), &[], &mut out)?;
-/// # Ok::<(), bilqarush::Stop>(())
-/// ```
 pub fn commit<'o>(
-    image: ImageBytes,
-    job: JobBytes,
+    image: &[u8],
+    job: &[u8],
     ids: &[u8],
     out: &'o mut [u8],
 ) -> Result<&'o mut [u8], Stop> {
@@ -141,30 +99,4 @@ pub fn commit<'o>(
             length,
         )
     })
-}
-
-/// [`commit`] into a buffer of its own, which is as long as the new image.
-///
-/// # Errors
-/// Stops as [`commit`], but 16.
-///
-/// ```
-/// use bilqarush::{commit_to_vec, Image, ImageBytes, Job, JobBytes, Part, Range, Run, Table, TableId, View, ViewId};
-/// // The old table is from a to z. A worker wrote one from a to m, and stopped: up to m, without m, it is durable.
-/// let old = Table::new(TableId(1), "a").with_last_key("z");
-/// let image = Image::new([Run::new(7, [View::new(ViewId(1), old)])]);
-/// let written = Table::new(TableId(2), "a").with_last_key("m");
-/// let job = Job::new(7, [7]).with_part(Part::new(Range::all()).with_output(written));
-/// let ids = b"twenty random bytes."; // one id for the output, which is cut, and one for what is left of the old view
-/// let after = commit_to_vec(ImageBytes(&image.to_bytes()?), JobBytes(&job.to_bytes()?), ids)?;
-/// assert_eq!(
-///     bilqarush::list_to_string(ImageBytes(&after))?,
-///     "run view table start end\n\
-///      7 0 00000000000000000000000000000002 [61 6d)\n\
-///      7 1 00000000000000000000000000000001 [6d 7a]\n"
-/// );
-/// # Ok::<(), bilqarush::Stop>(())
-/// ```
-pub fn commit_to_vec(image: ImageBytes, job: JobBytes, ids: &[u8]) -> Result<Vec<u8>, Stop> {
-    fresh(IMAGE_LEN, |out| commit(image, job, ids, out))
 }

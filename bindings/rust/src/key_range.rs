@@ -15,7 +15,7 @@ use core::ops::{Bound, RangeBounds};
 /// square bracket for an included bound, a round one for an excluded one, `-` for none.
 ///
 /// ```
-/// use bilqarush::Range;
+/// use bilqarush::typed::Range;
 /// assert_eq!(Range::new("a".."c").to_string(), "[61 63)");
 /// assert_eq!(Range::new("lamp/7"..).to_string(), "[6c616d702f37 -");
 /// assert_eq!(Range::all().to_string(), "- -");
@@ -49,7 +49,7 @@ impl Range {
         }
     }
 
-    /// The range that bytes are the image of. It is refused just as by [`contains`](crate::contains), with the place.
+    /// The range that bytes are the image of. It is refused just as by [`contains`](crate::typed::contains), with the place.
     ///
     /// # Errors
     /// 3 (length), 1 to 3 in the fields; 4.
@@ -59,7 +59,7 @@ impl Range {
         Ok(range)
     }
 
-    /// The range that bytes are the image of, also if it fails [`non_empty`](crate::non_empty).
+    /// The range that bytes are the image of, also if it fails [`non_empty`](crate::typed::non_empty).
     ///
     /// # Errors
     /// 3 (length), 1 to 3 in the fields.
@@ -91,8 +91,8 @@ impl<K: AsRef<[u8]>> Range<K> {
         }
     }
 
-    /// Its image, which the calls take as [`RangeBytes`](crate::RangeBytes): a head byte with both kinds, then each key after
-    /// its length. Whether the range passes [`non_empty`](crate::non_empty) is not looked at.
+    /// Its image, which the calls take as [`RangeBytes`](crate::typed::RangeBytes): a head byte with both kinds, then each key after
+    /// its length. Whether the range passes [`non_empty`](crate::typed::non_empty) is not looked at.
     ///
     /// # Errors
     /// 3 if a key is over 1,024 bytes.

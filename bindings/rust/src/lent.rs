@@ -8,16 +8,6 @@ macro_rules! lent {
             /// Other bytes cannot be given in their place by mistake.
             #[derive(Clone, Copy, Debug, PartialEq, Eq, Hash)]
             pub struct $name<'a>(pub &'a [u8]);
-
-            impl<'a> $name<'a> {
-                pub(crate) fn as_ptr(self) -> *const u8 {
-                    self.0.as_ptr()
-                }
-
-                pub(crate) fn len(self) -> usize {
-                    self.0.len()
-                }
-            }
         )*
     };
 }

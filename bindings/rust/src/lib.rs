@@ -4,41 +4,13 @@
 //! A safe function for each call of `libbilqarush_c.a`, which is written in Rattle and proved: what each answers, for
 //! every input, is stated in `docs/PROMISES.md` of the repository. A call takes any bytes. It answers, or refuses with a
 //! [`Stop`], and then every lent buffer is as it was. A call that writes takes `out` and answers the front of it that it
-//! wrote; the bytes past that front are as they were. The crate does without `std`.
+//! wrote; the bytes past that front are as they were. Nothing is allocated but by [`range_image`] and in [`typed`]. The crate does
+//! without `std`.
 //!
-//! # From values to answers
+//! [`typed`] has the same calls over bytes by what they are meant to be, images, jobs and the like as plain values, and the place
+//! of a refusal.
 //!
-//! [`Image`], [`Job`], [`Index`], [`Anchors`], [`Plan`] and [`Range`] are plain values with `to_bytes` and `from_bytes`.
-//! The calls take bytes, by what they are meant to be: [`ImageBytes`], [`JobBytes`] and so on, so that an image and a job
-//! cannot be exchanged. A key or a prefix is its bare bytes. The layouts are those of `docs/FORMAT.md`.
-//!
-//! ```
-//! use bilqarush::{check_image, list_to_string, Image, ImageBytes, Run, Table, TableId, View, ViewId};
-//!
-//! let table = Table::new(TableId(1), "lamp/1").with_last_key("lamp/8");
-//! let image = Image::new([Run::new(7, [View::new(ViewId(1), table)])]).to_bytes()?;
-//! check_image(ImageBytes(&image))?;
-//! print!("{}", list_to_string(ImageBytes(&image))?);
-//! # Ok::<(), bilqarush::Stop>(())
-//! ```
-//!
-//! | to do | call | into a buffer of its own |
-//! |---|---|---|
-//! | hold an image to the checks | [`check_image`] | |
-//! | list an image | [`list`] | [`list_to_string`] |
-//! | commit a job | [`commit`] | [`commit_to_vec`] |
-//! | find tables or blocks | [`table_idx_covering_range`], [`partitions_covering_range`] and others | |
-//! | estimate sizes | [`estimate_visible_size`], [`estimate_run_visible_size`] | |
-//! | plan a compaction | [`plan_subcompaction_ranges`], [`select_boundaries`], [`sample_anchors`] | [`plan_subcompaction_ranges_to_plan`], [`select_boundaries_to_plan`], [`sample_anchors_to_anchors`] |
-//! | see what of a job is durable | [`from_compaction`] | [`from_compaction_to_plan`] |
-//! | subtract an interval | [`subtract_from`] | [`subtract_from_to_plan`] |
-//! | make a range of a prefix | [`from_prefix`] | [`from_prefix_to_range`] |
-//! | learn where a refusal lies | [`explain`], [`explain_commit`], [`explain_plan`] | |
-//!
-//! The values, and the place that `explain` tells, are a second implementation in Rust that is not proved; tests hold it to
-//! the proved calls. Whether bytes are accepted, and every answer, is the proved calls' alone.
-//!
-//! # Building
+//! # Use
 //!
 //! By a path dependency on this folder of a checked-out repository:
 //!
@@ -48,7 +20,22 @@
 //! ```
 //!
 //! The archive is looked for in the folder that the variable `BILQARUSH_LIB_DIR` names, else in `target/staticlib` of the
-//! repository, where it is built if it is not there yet. It is for x86-64 Linux.
+//! repository, where `bindings/archive` is run if it is not there yet. It is for x86-64 Linux.
+//!
+//! # Arguments
+//!
+//! A key or a prefix is its bare bytes. A range is a range image, which [`range_image`] makes. Images, jobs, indexes, anchors
+//! and plans are laid out as `include/bilqarush.h` and `docs/FORMAT.md` say.
+//!
+//! ```
+//! use bilqarush::{contains, from_prefix, RANGE_LEN};
+//!
+//! let mut out = [0; RANGE_LEN];
+//! let lamps = from_prefix(b"lamp/", &mut out)?;
+//! assert!(contains(lamps, b"lamp/7")?);
+//! assert!(!contains(lamps, b"mast/7")?);
+//! # Ok::<(), bilqarush::Stop>(())
+//! ```
 #![no_std]
 #![warn(missing_docs)]
 
@@ -72,41 +59,27 @@ mod records;
 mod refusal;
 mod sizes;
 mod stop;
+pub mod typed;
 mod values;
 mod writer;
 
-pub use explain::{explain, explain_commit, explain_plan, Explained};
-pub use images::{
-    check_image, commit, commit_to_vec, compacted_effective_range, list, list_to_string,
-};
-pub use key_range::Range;
-pub use lent::{AnchorsBytes, ImageBytes, IndexBytes, IndexesBytes, JobBytes, RangeBytes};
+pub use images::{check_image, commit, compacted_effective_range, list};
 pub use lookups::{
     calculate_view_range, compacted_intersection, first_partition_including_key,
     first_partition_including_or_after_key, intersects_range, last_partition_including_key,
     overlaps_range, partition_point, partitions_covering_range, table_idx_covering_range, Test,
 };
-pub use plans::{
-    plan_subcompaction_ranges, plan_subcompaction_ranges_to_plan, sample_anchors,
-    sample_anchors_to_anchors, select_boundaries, select_boundaries_to_plan,
-};
-pub use progress::{
-    from_compaction, from_compaction_to_plan, subtract_from, subtract_from_to_plan,
-};
+pub use plans::{plan_subcompaction_ranges, sample_anchors, select_boundaries};
+pub use progress::{from_compaction, subtract_from};
 pub use ranges::{
-    as_point, cmp_bound, compare, contains, from_prefix, from_prefix_and_subrange,
-    from_prefix_and_subrange_to_range, from_prefix_to_range, intersect, intersect_end_key,
-    intersect_start_key, non_empty, union, Bounds, Joined, Side,
+    as_point, cmp_bound, compare, contains, from_prefix, from_prefix_and_subrange, intersect,
+    intersect_end_key, intersect_start_key, non_empty, range_image, union, Bounds, Joined, Range,
+    Side,
 };
-pub use refusal::{Buffer, Item, Place, Refusal};
 pub use sizes::{
     estimate_run_visible_size, estimate_visible_size, visible_fraction, VisibleFraction,
 };
 pub use stop::Stop;
-pub use values::{
-    Anchor, Anchors, Block, Image, Index, Indexes, Job, Part, Plan, Run, Table, TableId, View,
-    ViewId,
-};
 
 /// The longest key, which `out` of [`intersect_start_key`] and [`intersect_end_key`] has to hold.
 pub const KEY_LEN: usize = raw::BILQARUSH_KEY_LEN;

@@ -1,11 +1,7 @@
 //! The plan of a compaction: anchors of a table, and ranges from anchors.
-use crate::answer::{fresh, written};
+use crate::answer::written;
 use crate::raw;
-use crate::{
-    Anchors, AnchorsBytes, ImageBytes, IndexBytes, IndexesBytes, Plan, RangeBytes, Stop,
-    ANCHORS_LEN, PLAN_LEN,
-};
-use alloc::vec::Vec;
+use crate::Stop;
 
 /// Writes the anchors of a table to the front of `out` and answers that front: keys, each with the bytes that it stands for.
 /// The blocks of `index` go in groups of one size, the last maybe shorter: of as few blocks as make at most `most` groups.
@@ -13,25 +9,23 @@ use alloc::vec::Vec;
 /// group to `data_end`; none where the later offset is the lesser. The anchors whose key `range` holds are answered. `most`
 /// is 0 to 4,096, and 0 acts as 1. The call takes about 70 KB of stack.
 ///
-/// # Errors
-/// Stops 3 if `most` is over 4,096; 3 (length), 1 and 3 in the fields of `index`, then 1 to 3 of `range`; 4; 6; 16.
+/// Stops: 3 if `most` is over 4,096; 3 (length), 1 and 3 in the fields of `index`, then 1 to 3 of `range`; 4; 6; 16.
 /// [`ANCHORS_LEN`](crate::ANCHORS_LEN) bytes of `out` are always enough, and so are as many as `index` has.
 ///
 /// ```
-/// use bilqarush::{sample_anchors, Anchors, Index, IndexBytes, Range, RangeBytes};
 /// // Two blocks from a and from b, at the offsets 0 and 10; the data end at 25.
-/// let index = Index::new([(0, "a"), (10, "b")]).to_bytes()?;
-/// let all = Range::all().to_bytes()?;
+/// let index = b"\0\x02\0\0\0\0\0\0\0\0\0\x01a\0\0\0\0\0\0\0\x0a\0\x01b";
+/// let everything = [0];
 /// let mut out = [0; 64];
-/// let anchors = sample_anchors(128, 25, IndexBytes(&index), RangeBytes(&all), &mut out)?;
-/// assert_eq!(Anchors::from_bytes(anchors)?, Anchors::new([("a", 10), ("b", 15)]));
+/// let anchors = bilqarush::sample_anchors(128, 25, index, &everything, &mut out)?;
+/// assert_eq!(anchors, b"\0\x02\0\x01a\0\0\0\0\0\0\0\x0a\0\x01b\0\0\0\0\0\0\0\x0f");
 /// # Ok::<(), bilqarush::Stop>(())
 /// ```
 pub fn sample_anchors<'o>(
     most: usize,
     data_end: u64,
-    index: IndexBytes,
-    range: RangeBytes,
+    index: &[u8],
+    range: &[u8],
     out: &'o mut [u8],
 ) -> Result<&'o mut [u8], Stop> {
     // SAFETY: the slices are lent whole, and `out` is borrowed alone.
@@ -59,22 +53,22 @@ pub fn sample_anchors<'o>(
 /// `parts` - 1 yet. Each range but the last ends excluded at a boundary, where the next starts included. `parts` is 0 to 64,
 /// and 0 acts as 1. The call takes about 200 KB of stack.
 ///
-/// # Errors
-/// Stops 3 if `parts` is over 64; 3 (length), 1 and 3 in the fields of `anchors`; 7; 16. [`PLAN_LEN`](crate::PLAN_LEN)
+/// Stops: 3 if `parts` is over 64; 3 (length), 1 and 3 in the fields of `anchors`; 7; 16. [`PLAN_LEN`](crate::PLAN_LEN)
 /// bytes of `out` are always enough.
 ///
 /// ```
-/// use bilqarush::{select_boundaries, Anchors, AnchorsBytes, Plan, Range};
-/// let anchors = Anchors::new([("a", 10), ("b", 10)]).to_bytes()?;
+/// // Two anchors of 10 bytes each, a and b.
+/// let anchors = b"\0\x02\0\x01a\0\0\0\0\0\0\0\x0a\0\x01b\0\0\0\0\0\0\0\x0a";
 /// let mut out = [0; 64];
-/// let plan = select_boundaries(2, 0, AnchorsBytes(&anchors), &mut out)?;
-/// assert_eq!(Plan::from_bytes(plan)?.ranges, [Range::new(.."b"), Range::new("b"..)]);
+/// let plan = bilqarush::select_boundaries(2, 0, anchors, &mut out)?;
+/// // Two ranges: up to, without, b; and from b on.
+/// assert_eq!(plan, b"\x02\x20\0\x01b\x40\0\x01b");
 /// # Ok::<(), bilqarush::Stop>(())
 /// ```
 pub fn select_boundaries<'o>(
     parts: usize,
     least: u64,
-    anchors: AnchorsBytes,
+    anchors: &[u8],
     out: &'o mut [u8],
 ) -> Result<&'o mut [u8], Stop> {
     // SAFETY: the slices are lent whole, and `out` is borrowed alone.
@@ -97,23 +91,20 @@ pub fn select_boundaries<'o>(
 /// are sampled, as in [`sample_anchors`]: the data end at its `filter_offset`, and the range is the view's effective range.
 /// `parts` is 0 to 64, and 0 acts as 1. The call takes about 200 KB of stack.
 ///
-/// # Errors
-/// Stops 3 if `parts` is over 64; 3 (length), 1 to 3 in the fields of `image`, then 1 and 3 of `indexes`; 4; 5; 6, of the
+/// Stops: 3 if `parts` is over 64; 3 (length), 1 to 3 in the fields of `image`, then 1 and 3 of `indexes`; 4; 5; 6, of the
 /// image or within one index; 7, of a raw size or of the total of the sampled anchors; 15 if over 4,096 anchors are sampled;
 /// 16. [`PLAN_LEN`](crate::PLAN_LEN) bytes of `out` are always enough.
 ///
 /// ```
-/// use bilqarush::{plan_subcompaction_ranges, ImageBytes, IndexesBytes};
 /// // No runs, and so no index: one unbounded range.
 /// let mut out = [0; 64];
-/// let plan = plan_subcompaction_ranges(8, ImageBytes(&[0]), IndexesBytes(&[]), &mut out)?;
-/// assert_eq!(plan, [1, 0]);
+/// assert_eq!(bilqarush::plan_subcompaction_ranges(8, &[0], &[], &mut out)?, [1, 0]);
 /// # Ok::<(), bilqarush::Stop>(())
 /// ```
 pub fn plan_subcompaction_ranges<'o>(
     parts: usize,
-    image: ImageBytes,
-    indexes: IndexesBytes,
+    image: &[u8],
+    indexes: &[u8],
     out: &'o mut [u8],
 ) -> Result<&'o mut [u8], Stop> {
     // SAFETY: the slices are lent whole, and `out` is borrowed alone.
@@ -129,56 +120,4 @@ pub fn plan_subcompaction_ranges<'o>(
             length,
         )
     })
-}
-
-/// [`sample_anchors`] into a buffer of its own, as a value.
-///
-/// # Errors
-/// Stops as there, but 16.
-pub fn sample_anchors_to_anchors(
-    most: usize,
-    data_end: u64,
-    index: IndexBytes,
-    range: RangeBytes,
-) -> Result<Anchors, Stop> {
-    let anchors = fresh(ANCHORS_LEN, |out| {
-        sample_anchors(most, data_end, index, range, out)
-    })?;
-    Ok(Anchors::decode(&anchors)
-        .expect("libbilqarush_c.a wrote no anchors: it does not fit this crate"))
-}
-
-/// [`select_boundaries`] into a buffer of its own, as a value.
-///
-/// # Errors
-/// Stops as there, but 16.
-pub fn select_boundaries_to_plan(
-    parts: usize,
-    least: u64,
-    anchors: AnchorsBytes,
-) -> Result<Plan, Stop> {
-    fresh(PLAN_LEN, |out| {
-        select_boundaries(parts, least, anchors, out)
-    })
-    .map(read)
-}
-
-/// [`plan_subcompaction_ranges`] into a buffer of its own, as a value.
-///
-/// # Errors
-/// Stops as there, but 16.
-pub fn plan_subcompaction_ranges_to_plan(
-    parts: usize,
-    image: ImageBytes,
-    indexes: IndexesBytes,
-) -> Result<Plan, Stop> {
-    fresh(PLAN_LEN, |out| {
-        plan_subcompaction_ranges(parts, image, indexes, out)
-    })
-    .map(read)
-}
-
-/// What a call wrote is a plan, or the archive does not fit this crate.
-pub(crate) fn read(bytes: Vec<u8>) -> Plan {
-    Plan::from_bytes(&bytes).expect("libbilqarush_c.a wrote no plan: it does not fit this crate")
 }

@@ -1,11 +1,15 @@
 //! Keys, bounds and ranges.
-use crate::answer::{fresh, joined, part, written};
+use crate::answer::{joined, part, written};
 use crate::raw;
+use crate::typed;
 use crate::writer::kind_and_key;
-use crate::{Range, RangeBytes, Stop, RANGE_LEN};
+use crate::Stop;
 use alloc::vec::Vec;
 use core::cmp::Ordering;
 use core::ops::Bound;
+
+/// A range whose keys are parts of the slices that the call was given.
+pub type Range<'a> = typed::Range<&'a [u8]>;
 
 /// Which of two slices supplied a bound.
 #[derive(Clone, Copy, Debug, PartialEq, Eq, Hash)]
@@ -20,7 +24,7 @@ pub enum Side {
 #[derive(Clone, Copy, Debug, PartialEq, Eq, Hash)]
 pub struct Joined<'a> {
     /// The range. A bound's key is a part of the slice that supplied it.
-    pub range: Range<&'a [u8]>,
+    pub range: Range<'a>,
     /// The slice that supplied the start.
     pub start_from: Side,
     /// The slice that supplied the end.
@@ -38,14 +42,12 @@ pub enum Bounds {
 
 /// The order of two keys: by the first unequal byte, a proper prefix first.
 ///
-/// # Errors
-/// Stops 3 if `a` is over 1,024 bytes, then 3 if `b` is.
+/// Stops: 3 if `a` is over 1,024 bytes, then 3 if `b` is.
 ///
 /// ```
-/// use bilqarush::{compare, Stop};
 /// use std::cmp::Ordering;
-/// assert_eq!(compare(b"lamp", b"lamp 7"), Ok(Ordering::Less));
-/// assert_eq!(compare(&[0; 1025], b""), Err(Stop::Ceiling));
+/// assert_eq!(bilqarush::compare(b"lamp", b"lamp 7"), Ok(Ordering::Less));
+/// assert_eq!(bilqarush::compare(&[0; 1025], b"").unwrap_err().number(), 3);
 /// ```
 pub fn compare(a: &[u8], b: &[u8]) -> Result<Ordering, Stop> {
     let mut order = 0;
@@ -59,8 +61,7 @@ pub fn compare(a: &[u8], b: &[u8]) -> Result<Ordering, Stop> {
 /// The order of two bounds. At equal keys, included comes before excluded as a start and after it as an end. An
 /// unbounded start is least, an unbounded end greatest.
 ///
-/// # Errors
-/// Stops 3 if the key of `a` is over 1,024 bytes, then 3 if that of `b` is.
+/// Stops: 3 if the key of `a` is over 1,024 bytes, then 3 if that of `b` is.
 ///
 /// ```
 /// use bilqarush::{cmp_bound, Bounds};
@@ -89,13 +90,27 @@ pub fn cmp_bound(a: Bound<&[u8]>, b: Bound<&[u8]>, bounds: Bounds) -> Result<Ord
     Ok(order.cmp(&0))
 }
 
+/// The image of a range: a head byte with both kinds, then each key after its length. It is what the calls take as a
+/// range. Whether the range passes [`non_empty`] is not looked at.
+///
+/// Stops: 3 if a key is over 1,024 bytes.
+///
+/// ```
+/// use std::ops::Bound::*;
+/// let image = bilqarush::range_image(Included(b"a"), Unbounded)?;
+/// assert_eq!(image, b"\x40\x00\x01a");
+/// # Ok::<(), bilqarush::Stop>(())
+/// ```
+pub fn range_image(start: Bound<&[u8]>, end: Bound<&[u8]>) -> Result<Vec<u8>, Stop> {
+    Range { start, end }.to_bytes()
+}
+
 /// Whether a range passes slatedb's rule: with two keys, start < end, or equality if both are included; with an
 /// unbounded side always. Two kinds of range pass and hold no key: excluded k to excluded k followed by 00, and
 /// unbounded to excluded empty key.
 ///
-/// # Errors
-/// Stops 3 (length), 1 to 3 in the fields of `range`.
-pub fn non_empty(range: RangeBytes) -> Result<bool, Stop> {
+/// Stops: 3 (length), 1 to 3 in the fields of `range`.
+pub fn non_empty(range: &[u8]) -> Result<bool, Stop> {
     let mut is = false;
     // SAFETY: the slice is lent whole, and the slot is this function's own.
     Stop::told(unsafe { raw::bilqarush_non_empty(range.as_ptr(), range.len(), &mut is) })?;
@@ -104,17 +119,16 @@ pub fn non_empty(range: RangeBytes) -> Result<bool, Stop> {
 
 /// Whether a range holds a key.
 ///
-/// # Errors
-/// Stops 3 (length), 1 to 3 in the fields of `range`; 3 if `key` is over 1,024 bytes; 4.
+/// Stops: 3 (length), 1 to 3 in the fields of `range`; 3 if `key` is over 1,024 bytes; 4.
 ///
 /// ```
-/// use bilqarush::{contains, Range, RangeBytes};
-/// let range = Range::new("a".."c").to_bytes()?;
-/// assert!(contains(RangeBytes(&range), b"b")?);
-/// assert!(!contains(RangeBytes(&range), b"c")?);
+/// use std::ops::Bound::*;
+/// let range = bilqarush::range_image(Included(b"a"), Excluded(b"c"))?;
+/// assert!(bilqarush::contains(&range, b"b")?);
+/// assert!(!bilqarush::contains(&range, b"c")?);
 /// # Ok::<(), bilqarush::Stop>(())
 /// ```
-pub fn contains(range: RangeBytes, key: &[u8]) -> Result<bool, Stop> {
+pub fn contains(range: &[u8], key: &[u8]) -> Result<bool, Stop> {
     let mut is = false;
     // SAFETY: the slices are lent whole, and the slot is this function's own.
     Stop::told(unsafe {
@@ -131,49 +145,48 @@ pub fn contains(range: RangeBytes, key: &[u8]) -> Result<bool, Stop> {
 
 /// The key of a range that is one point (both bounds included, with equal keys), as a part of `range`.
 ///
-/// # Errors
-/// Stops 3 (length), 1 to 3 in the fields of `range`; 4.
-pub fn as_point(range: RangeBytes<'_>) -> Result<Option<&[u8]>, Stop> {
+/// Stops: 3 (length), 1 to 3 in the fields of `range`; 4.
+pub fn as_point(range: &[u8]) -> Result<Option<&[u8]>, Stop> {
     let mut out = [0; raw::BILQARUSH_POINT_LEN];
     // SAFETY: the slices are lent whole, and what is written is this function's own.
     let answer = written(&mut out, |to, room, length| unsafe {
         raw::bilqarush_as_point(range.as_ptr(), range.len(), to, room, length)
     })?;
-    Ok((answer[0] == 1).then(|| part(range.0, &answer[1..])))
+    Ok((answer[0] == 1).then(|| part(range, &answer[1..])))
 }
 
 /// The intersection of two ranges: the greater start and the lesser end; of equal bounds, the second range's start and
 /// the first's end.
 ///
-/// # Errors
-/// Stops 3 (length), 1 to 3 in the fields of `a`, then of `b`; 4 of either.
+/// Stops: 3 (length), 1 to 3 in the fields of `a`, then of `b`; 4 of either.
 ///
 /// ```
-/// use bilqarush::{intersect, Range, RangeBytes, Side};
-/// let a = Range::new("a"..="m").to_bytes()?;
-/// let b = Range::new("c"..).to_bytes()?;
-/// let both = intersect(RangeBytes(&a), RangeBytes(&b))?.unwrap();
-/// assert_eq!(both.range.owned(), Range::new("c"..="m"));
+/// use bilqarush::{intersect, range_image, Side};
+/// use std::ops::Bound::*;
+/// let a = range_image(Included(b"a"), Included(b"m"))?;
+/// let b = range_image(Included(b"c"), Unbounded)?;
+/// let both = intersect(&a, &b)?.unwrap();
+/// assert_eq!(both.range.start, Included(&b"c"[..]));
+/// assert_eq!(both.range.end, Included(&b"m"[..]));
 /// assert_eq!((both.start_from, both.end_from), (Side::Second, Side::First));
 /// # Ok::<(), bilqarush::Stop>(())
 /// ```
-pub fn intersect<'a>(a: RangeBytes<'a>, b: RangeBytes<'a>) -> Result<Option<Joined<'a>>, Stop> {
+pub fn intersect<'a>(a: &'a [u8], b: &'a [u8]) -> Result<Option<Joined<'a>>, Stop> {
     let mut out = [0; raw::BILQARUSH_JOINED_LEN];
     // SAFETY: the slices are lent whole, and what is written is this function's own.
     let answer = written(&mut out, |to, room, length| unsafe {
         raw::bilqarush_intersect(a.as_ptr(), a.len(), b.as_ptr(), b.len(), to, room, length)
     })?;
-    Ok(joined(a.0, b.0, answer))
+    Ok(joined(a, b, answer))
 }
 
 /// Writes the key of the intersection's start to the front of `out` and answers that front. It has no bytes where
 /// there is no intersection or it starts unbounded.
 ///
-/// # Errors
-/// Stops as [`intersect`]; 16. [`KEY_LEN`](crate::KEY_LEN) bytes are always enough.
+/// Stops: as [`intersect`]; 16. [`KEY_LEN`](crate::KEY_LEN) bytes are always enough.
 pub fn intersect_start_key<'o>(
-    a: RangeBytes,
-    b: RangeBytes,
+    a: &[u8],
+    b: &[u8],
     out: &'o mut [u8],
 ) -> Result<&'o mut [u8], Stop> {
     // SAFETY: the slices are lent whole, and `out` is borrowed alone.
@@ -193,13 +206,8 @@ pub fn intersect_start_key<'o>(
 /// Writes the key of the intersection's end to the front of `out` and answers that front. It has no bytes where
 /// there is no intersection or it ends unbounded.
 ///
-/// # Errors
-/// Stops as [`intersect`]; 16. [`KEY_LEN`](crate::KEY_LEN) bytes are always enough.
-pub fn intersect_end_key<'o>(
-    a: RangeBytes,
-    b: RangeBytes,
-    out: &'o mut [u8],
-) -> Result<&'o mut [u8], Stop> {
+/// Stops: as [`intersect`]; 16. [`KEY_LEN`](crate::KEY_LEN) bytes are always enough.
+pub fn intersect_end_key<'o>(a: &[u8], b: &[u8], out: &'o mut [u8]) -> Result<&'o mut [u8], Stop> {
     // SAFETY: the slices are lent whole, and `out` is borrowed alone.
     written(out, |to, room, length| unsafe {
         raw::bilqarush_intersect_end_key(a.as_ptr(), a.len(), b.as_ptr(), b.len(), to, room, length)
@@ -210,21 +218,19 @@ pub fn intersect_end_key<'o>(
 /// lies between. The start is the lesser range's (by start, then by end; the second's if they are equal); the end is the
 /// greater, of equal ends the other range's.
 ///
-/// # Errors
-/// Stops as [`intersect`].
-pub fn union<'a>(a: RangeBytes<'a>, b: RangeBytes<'a>) -> Result<Option<Joined<'a>>, Stop> {
+/// Stops: as [`intersect`].
+pub fn union<'a>(a: &'a [u8], b: &'a [u8]) -> Result<Option<Joined<'a>>, Stop> {
     let mut out = [0; raw::BILQARUSH_JOINED_LEN];
     // SAFETY: the slices are lent whole, and what is written is this function's own.
     let answer = written(&mut out, |to, room, length| unsafe {
         raw::bilqarush_union(a.as_ptr(), a.len(), b.as_ptr(), b.len(), to, room, length)
     })?;
-    Ok(joined(a.0, b.0, answer))
+    Ok(joined(a, b, answer))
 }
 
 /// Writes the image of the range of the keys that begin with a prefix to the front of `out` and answers that front.
 ///
-/// # Errors
-/// Stops 3 if `prefix` is over 1,024 bytes; 16. [`RANGE_LEN`](crate::RANGE_LEN) bytes are always enough.
+/// Stops: 3 if `prefix` is over 1,024 bytes; 16. [`RANGE_LEN`](crate::RANGE_LEN) bytes are always enough.
 ///
 /// ```
 /// let mut out = [0; bilqarush::RANGE_LEN];
@@ -242,13 +248,12 @@ pub fn from_prefix<'o>(prefix: &[u8], out: &'o mut [u8]) -> Result<&'o mut [u8],
 /// Writes the image of the range of the keys that are a prefix and then a key of a subrange to the front of `out` and
 /// answers that front.
 ///
-/// # Errors
-/// Stops 3 if `prefix` is over 1,024 bytes; 3 (length), 1 to 3 in the fields of `subrange`; 3 if the prefix and a key of
+/// Stops: 3 if `prefix` is over 1,024 bytes; 3 (length), 1 to 3 in the fields of `subrange`; 3 if the prefix and a key of
 /// the subrange join to over 1,024 bytes; 4 of the subrange or of the joined range; 16.
 /// [`RANGE_LEN`](crate::RANGE_LEN) bytes are always enough.
 pub fn from_prefix_and_subrange<'o>(
     prefix: &[u8],
-    subrange: RangeBytes,
+    subrange: &[u8],
     out: &'o mut [u8],
 ) -> Result<&'o mut [u8], Stop> {
     // SAFETY: the slices are lent whole, and `out` is borrowed alone.
@@ -263,37 +268,4 @@ pub fn from_prefix_and_subrange<'o>(
             length,
         )
     })
-}
-
-/// [`from_prefix`] into a buffer of its own.
-///
-/// # Errors
-/// Stops as there, but 16.
-///
-/// ```
-/// use bilqarush::{from_prefix_to_range, Range};
-/// assert_eq!(from_prefix_to_range(b"lamp/")?, Range::new("lamp/".."lamp0"));
-/// # Ok::<(), bilqarush::Stop>(())
-/// ```
-pub fn from_prefix_to_range(prefix: &[u8]) -> Result<Range, Stop> {
-    fresh(RANGE_LEN, |out| from_prefix(prefix, out)).map(read)
-}
-
-/// [`from_prefix_and_subrange`] into a buffer of its own.
-///
-/// # Errors
-/// Stops as there, but 16.
-pub fn from_prefix_and_subrange_to_range(
-    prefix: &[u8],
-    subrange: RangeBytes,
-) -> Result<Range, Stop> {
-    fresh(RANGE_LEN, |out| {
-        from_prefix_and_subrange(prefix, subrange, out)
-    })
-    .map(read)
-}
-
-/// What a call wrote is a range, or the archive does not fit this crate.
-fn read(bytes: Vec<u8>) -> Range {
-    Range::decode(&bytes).expect("libbilqarush_c.a wrote no range: it does not fit this crate")
 }

@@ -1,8 +1,9 @@
 //! The layouts of docs/FORMAT.md, read into values.
 use crate::raw::*;
 use crate::refusal::{Buffer, Item, Place, Refusal};
+use crate::typed::Range;
 use crate::values::*;
-use crate::{Range, Stop};
+use crate::Stop;
 use alloc::vec::Vec;
 use core::ops::Bound;
 

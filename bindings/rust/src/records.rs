@@ -8,10 +8,10 @@ use crate::Stop;
 use alloc::vec::Vec;
 
 impl Image {
-    /// The image that bytes are, if [`check_image`](crate::check_image) takes them.
+    /// The image that bytes are, if [`check_image`](crate::typed::check_image) takes them.
     ///
     /// # Errors
-    /// The stops of [`check_image`](crate::check_image), with their place.
+    /// The stops of [`check_image`](crate::typed::check_image), with their place.
     pub fn from_bytes(bytes: &[u8]) -> Result<Image, Refusal> {
         let image = Image::decode(bytes)?;
         checks::all_of_image(&image)?;
@@ -30,7 +30,7 @@ impl Image {
         Ok(image)
     }
 
-    /// Its bytes, for [`ImageBytes`](crate::ImageBytes). The checks 4 to 7 are not made.
+    /// Its bytes, for [`ImageBytes`](crate::typed::ImageBytes). The checks 4 to 7 are not made.
     ///
     /// # Errors
     /// 3 if a count, a key or all of it is over its ceiling.
@@ -42,10 +42,10 @@ impl Image {
 }
 
 impl Job {
-    /// The job that bytes are, if [`from_compaction`](crate::from_compaction) takes them.
+    /// The job that bytes are, if [`from_compaction`](crate::typed::from_compaction) takes them.
     ///
     /// # Errors
-    /// The stops of [`from_compaction`](crate::from_compaction) but 16, with their place.
+    /// The stops of [`from_compaction`](crate::typed::from_compaction) but 16, with their place.
     pub fn from_bytes(bytes: &[u8]) -> Result<Job, Refusal> {
         let job = Job::decode(bytes)?;
         checks::all_of_job(&job)?;
@@ -63,7 +63,7 @@ impl Job {
         Ok(job)
     }
 
-    /// Its bytes, for [`JobBytes`](crate::JobBytes). The checks from 4 on are not made.
+    /// Its bytes, for [`JobBytes`](crate::typed::JobBytes). The checks from 4 on are not made.
     ///
     /// # Errors
     /// 3 if a count, a key or all of it is over its ceiling.
@@ -75,7 +75,7 @@ impl Job {
 }
 
 impl Index {
-    /// The index that bytes are, if [`partition_point`](crate::partition_point) takes them.
+    /// The index that bytes are, if [`partition_point`](crate::typed::partition_point) takes them.
     ///
     /// # Errors
     /// 3 (length), 1 and 3 in the fields; 6.
@@ -96,7 +96,7 @@ impl Index {
         Ok(index)
     }
 
-    /// Its bytes, for [`IndexBytes`](crate::IndexBytes). Check 6 is not made.
+    /// Its bytes, for [`IndexBytes`](crate::typed::IndexBytes). Check 6 is not made.
     ///
     /// # Errors
     /// 3 if a count, a key or all of it is over its ceiling.
@@ -108,7 +108,7 @@ impl Index {
 }
 
 impl Indexes {
-    /// The indexes that bytes are, as many as stand there end to end, if [`partition_point`](crate::partition_point) takes each
+    /// The indexes that bytes are, as many as stand there end to end, if [`partition_point`](crate::typed::partition_point) takes each
     /// of them. Whether an image has as many views is not looked at.
     ///
     /// # Errors
@@ -132,7 +132,7 @@ impl Indexes {
         Ok(Indexes { indexes })
     }
 
-    /// Their bytes, for [`IndexesBytes`](crate::IndexesBytes). Check 6 is not made.
+    /// Their bytes, for [`IndexesBytes`](crate::typed::IndexesBytes). Check 6 is not made.
     ///
     /// # Errors
     /// 3 if a count, a key or all of it is over its ceiling.
@@ -146,7 +146,7 @@ impl Indexes {
 }
 
 impl Anchors {
-    /// The anchors that bytes are, if [`select_boundaries`](crate::select_boundaries) takes them.
+    /// The anchors that bytes are, if [`select_boundaries`](crate::typed::select_boundaries) takes them.
     ///
     /// # Errors
     /// 3 (length), 1 and 3 in the fields; 7.
@@ -167,7 +167,7 @@ impl Anchors {
         Ok(anchors)
     }
 
-    /// Their bytes, for [`AnchorsBytes`](crate::AnchorsBytes). Check 7 is not made.
+    /// Their bytes, for [`AnchorsBytes`](crate::typed::AnchorsBytes). Check 7 is not made.
     ///
     /// # Errors
     /// 3 if a count, a key or all of it is over its ceiling.
@@ -179,9 +179,9 @@ impl Anchors {
 }
 
 impl Plan {
-    /// The plan that bytes are, as [`select_boundaries`](crate::select_boundaries),
-    /// [`plan_subcompaction_ranges`](crate::plan_subcompaction_ranges), [`from_compaction`](crate::from_compaction) and
-    /// [`subtract_from`](crate::subtract_from) write one. No call reads a plan, and it may be over 65,536 bytes.
+    /// The plan that bytes are, as [`select_boundaries`](crate::typed::select_boundaries),
+    /// [`plan_subcompaction_ranges`](crate::typed::plan_subcompaction_ranges), [`from_compaction`](crate::typed::from_compaction) and
+    /// [`subtract_from`](crate::typed::subtract_from) write one. No call reads a plan, and it may be over 65,536 bytes.
     ///
     /// # Errors
     /// 1 to 3 in the fields.

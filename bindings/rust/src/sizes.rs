@@ -1,6 +1,6 @@
 //! Visible sizes: of a view and of a run in an image.
 use crate::raw;
-use crate::{ImageBytes, Stop};
+use crate::Stop;
 
 /// How much of its table a view shows.
 #[derive(Clone, Copy, Debug, PartialEq)]
@@ -20,26 +20,21 @@ pub enum VisibleFraction {
 /// prefix of the table's first and last key count, eight at most: the first as 256ths, the next as 256ths of these, and so
 /// on. Each step is one of `f64`, in slatedb's order, and the bits of a part are slatedb's.
 ///
-/// # Errors
-/// Stops as [`check_image`](crate::check_image); 9.
+/// Stops: as [`check_image`](crate::check_image); 9.
 ///
 /// ```
 /// use bilqarush::{visible_fraction, VisibleFraction};
-/// use bilqarush::{Image, ImageBytes, Range, Run, Table, TableId, View, ViewId};
-/// // Run 7 with a view of a table with keys from 00 to 80.
-/// let view = View::new(ViewId(1), Table::new(TableId(1), [0x00]).with_last_key([0x80]));
-/// let all = Image::new([Run::new(7, [view.clone()])]).to_bytes()?;
-/// assert_eq!(visible_fraction(ImageBytes(&all), 0, 0)?, VisibleFraction::Whole);
+/// // Run 7 with a view of a table with keys from 00 to 80 and a raw size of 5. Ids are 0.
+/// let numbers = [&[0; 39][..], &[5], &[0; 16]].concat();
+/// let table = [&[1, 0, 0, 0, 7, 0, 0x10][..], &numbers, b"\x80\0\x01\0\0\x01\x80"].concat();
+/// let all = [&table[..], b"\0"].concat();
+/// assert_eq!(visible_fraction(&all, 0, 0)?, VisibleFraction::Whole);
 /// // From 00 up to, without, 40 is visible.
-/// let half = Image::new([Run::new(7, [view.with_visible(Range::new([0x00]..[0x40]))])]).to_bytes()?;
-/// assert_eq!(visible_fraction(ImageBytes(&half), 0, 0)?, VisibleFraction::Part(0.5));
+/// let half = [&table[..], b"\x80\x60\0\x01\0\0\x01\x40"].concat();
+/// assert_eq!(visible_fraction(&half, 0, 0)?, VisibleFraction::Part(0.5));
 /// # Ok::<(), bilqarush::Stop>(())
 /// ```
-pub fn visible_fraction(
-    image: ImageBytes,
-    run: usize,
-    view: usize,
-) -> Result<VisibleFraction, Stop> {
+pub fn visible_fraction(image: &[u8], run: usize, view: usize) -> Result<VisibleFraction, Stop> {
     let (mut part, mut fraction) = (false, 0.0);
     // SAFETY: the slice is lent whole, and the slots are this function's own.
     Stop::told(unsafe {
@@ -64,23 +59,19 @@ pub fn visible_fraction(
 /// number, a half up, and 1 at least. `run` is the run's place in the image and `view` the view's place in its run, both
 /// from 0.
 ///
-/// # Errors
-/// Stops as [`check_image`](crate::check_image); 9.
+/// Stops: as [`check_image`](crate::check_image); 9.
 ///
 /// ```
 /// use bilqarush::estimate_visible_size;
-/// use bilqarush::{Image, ImageBytes, Range, Run, Table, TableId, View, ViewId};
-/// // Run 7 with a view of a table with keys from 00 to 80 and a raw size of 5.
-/// let table = Table::new(TableId(1), [0x00]).with_last_key([0x80]).with_index(3, 2);
-/// let view = View::new(ViewId(1), table);
-/// let all = Image::new([Run::new(7, [view.clone()])]).to_bytes()?;
-/// assert_eq!(estimate_visible_size(ImageBytes(&all), 0, 0)?, 5);
+/// // Run 7 with a view of a table with keys from 00 to 80 and a raw size of 5. Ids are 0.
+/// let numbers = [&[0; 39][..], &[5], &[0; 16]].concat();
+/// let table = [&[1, 0, 0, 0, 7, 0, 0x10][..], &numbers, b"\x80\0\x01\0\0\x01\x80"].concat();
+/// assert_eq!(estimate_visible_size(&[&table[..], b"\0"].concat(), 0, 0), Ok(5));
 /// // From 00 up to, without, 40 is visible: half of it.
-/// let half = Image::new([Run::new(7, [view.with_visible(Range::new([0x00]..[0x40]))])]).to_bytes()?;
-/// assert_eq!(estimate_visible_size(ImageBytes(&half), 0, 0)?, 3);
-/// # Ok::<(), bilqarush::Stop>(())
+/// let half = [&table[..], b"\x80\x60\0\x01\0\0\x01\x40"].concat();
+/// assert_eq!(estimate_visible_size(&half, 0, 0), Ok(3));
 /// ```
-pub fn estimate_visible_size(image: ImageBytes, run: usize, view: usize) -> Result<u64, Stop> {
+pub fn estimate_visible_size(image: &[u8], run: usize, view: usize) -> Result<u64, Stop> {
     let mut size = 0;
     // SAFETY: the slice is lent whole, and the slot is this function's own.
     Stop::told(unsafe {
@@ -92,19 +83,16 @@ pub fn estimate_visible_size(image: ImageBytes, run: usize, view: usize) -> Resu
 /// The visible size of a run, in bytes: the sum over its views, 0 if it has none. `run` is the run's place in the image, from
 /// 0.
 ///
-/// # Errors
-/// Stops as [`check_image`](crate::check_image); 9.
+/// Stops: as [`check_image`](crate::check_image); 9.
 ///
 /// ```
 /// use bilqarush::estimate_run_visible_size;
-/// use bilqarush::{Image, ImageBytes, Run, Table, TableId, View, ViewId};
-/// // Run 7 with two views of tables from a on, of raw sizes 5 and 6.
-/// let view = |id, size| View::new(ViewId(id), Table::new(TableId(id), "a").with_index(size, 0));
-/// let image = Image::new([Run::new(7, [view(1, 5), view(2, 6)])]).to_bytes()?;
-/// assert_eq!(estimate_run_visible_size(ImageBytes(&image), 0)?, 11);
-/// # Ok::<(), bilqarush::Stop>(())
+/// // Run 7 with two views of tables from a on, of raw sizes 5 and 6. Ids are 0.
+/// let view = |size: u8| [&[0; 39][..], &[size], &[0; 16], b"\0\0\x01a\0"].concat();
+/// let image = [&[1, 0, 0, 0, 7, 0, 0x20][..], &view(5), &view(6)].concat();
+/// assert_eq!(estimate_run_visible_size(&image, 0), Ok(11));
 /// ```
-pub fn estimate_run_visible_size(image: ImageBytes, run: usize) -> Result<u64, Stop> {
+pub fn estimate_run_visible_size(image: &[u8], run: usize) -> Result<u64, Stop> {
     let mut size = 0;
     // SAFETY: the slice is lent whole, and the slot is this function's own.
     Stop::told(unsafe {

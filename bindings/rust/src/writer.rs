@@ -1,7 +1,8 @@
 //! The layouts of docs/FORMAT.md, written from values.
 use crate::raw::*;
+use crate::typed::Range;
 use crate::values::*;
-use crate::{Range, Stop};
+use crate::Stop;
 use alloc::vec::Vec;
 use core::ops::Bound;
 

@@ -62,13 +62,11 @@ fn completed() -> Vec<u8> {
 }
 
 fn committed(image: &[u8], job: &[u8], ids: &[u8]) -> Result<Vec<u8>, u8> {
-    lend(IMAGE_LEN, |out| {
-        commit(ImageBytes(image), JobBytes(job), ids, out)
-    })
+    lend(IMAGE_LEN, |out| commit(image, job, ids, out))
 }
 
 fn listed(image: &[u8]) -> String {
-    let listing = lend_text(LISTING_LEN, |out| list(ImageBytes(image), out)).unwrap();
+    let listing = lend(LISTING_LEN, |out| list(image, out)).unwrap();
     String::from_utf8(listing).unwrap()
 }
 
@@ -102,7 +100,7 @@ fn after_half_way() -> Vec<u8> {
 fn a_half_finished_compaction_is_committed() {
     let new = committed(&two_runs(), &half_way(), IDS).unwrap();
     assert_eq!(new, after_half_way());
-    assert_eq!(check_image(ImageBytes(&new)), Ok(()));
+    assert_eq!(check_image(&new), Ok(()));
 }
 
 #[test]
@@ -119,8 +117,8 @@ fn the_last_written_key_is_still_shown_by_the_old_table() {
     assert_eq!(listed(&new), lines);
     // Key h, by the calls on ranges.
     let holds_h = |view| {
-        let effective = compacted_effective_range(ImageBytes(&new), 0, view).unwrap();
-        contains(RangeBytes(&range(effective.start, effective.end)), b"h").unwrap()
+        let effective = compacted_effective_range(&new, 0, view).unwrap();
+        contains(&range(effective.start, effective.end), b"h").unwrap()
     };
     assert_eq!(
         [0, 1, 2, 3, 4].map(holds_h),
@@ -169,11 +167,7 @@ fn a_draw_that_makes_the_old_id_is_made_again() {
 #[test]
 fn supply_and_buffer_are_just_enough() {
     let room = after_half_way().len();
-    let lent = |room, ids| {
-        lend(room, |out| {
-            commit(ImageBytes(&two_runs()), JobBytes(&half_way()), ids, out)
-        })
-    };
+    let lent = |room, ids| lend(room, |out| commit(&two_runs(), &half_way(), ids, out));
     assert_eq!(lent(room, IDS), Ok(after_half_way()));
     assert_eq!(lent(room - 1, IDS), Err(16));
     assert_eq!(lent(0, IDS), Err(16));
@@ -233,9 +227,7 @@ fn each_stop_of_a_job() {
     for (job, stop) in refused_jobs() {
         assert_eq!(committed(&two_runs(), &job, IDS), Err(stop));
         // No supply and no room: these stops come last.
-        let lent = lend(0, |out| {
-            commit(ImageBytes(&two_runs()), JobBytes(&job), &[], out)
-        });
+        let lent = lend(0, |out| commit(&two_runs(), &job, &[], out));
         assert_eq!(lent, Err(stop));
     }
 }
@@ -260,15 +252,7 @@ fn a_result_with_too_many_views() {
     let ids: Vec<u8> = (0..2048 * 10).map(|i| (i % 251) as u8 + 1).collect();
     assert_eq!(committed(&full, &job, &ids), Err(15));
     assert_eq!(committed(&full, &job, &ids[1..]), Err(14));
-    assert_eq!(
-        lend(0, |out| commit(
-            ImageBytes(&full),
-            JobBytes(&job),
-            &ids,
-            out
-        )),
-        Err(15)
-    );
+    assert_eq!(lend(0, |out| commit(&full, &job, &ids, out)), Err(15));
 }
 
 fn long(byte: u8) -> String {

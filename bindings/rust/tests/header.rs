@@ -86,6 +86,8 @@ fn the_same_constants() {
     });
     let in_header: Vec<_> = in_header.collect();
     assert_eq!(in_header.len(), 25);
+    let is_added = |name: &str| name == "BILQARUSH_IDS_LEN";
+    assert_eq!(in_header.iter().filter(|(name, _)| !is_added(name)).count(), 24);
     assert_eq!(in_header, in_raw.collect::<Vec<_>>());
 }
 
@@ -105,6 +107,18 @@ fn the_same_version() {
             ("BILQARUSH_VERSION_PATCH", env!("CARGO_PKG_VERSION_PATCH")),
         ]
     );
+}
+
+#[test]
+fn the_same_words_for_stops() {
+    let header = spaced(&repository("include/bilqarush.h").replace("\n *", "\n"));
+    for number in 1..=16 {
+        let stop = Stop::from_number(number).unwrap().to_string();
+        let (_, words) = stop.split_once(": ").unwrap();
+        let (first, rest) = words.split_at(1);
+        let line = format!("{number} {}{rest}.", first.to_uppercase());
+        assert!(header.contains(&line), "{line}");
+    }
 }
 
 /// A stop's name in C: `BILQARUSH_STOP_INPUT_END` of `InputEnd`.

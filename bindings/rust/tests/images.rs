@@ -8,9 +8,7 @@ use std::ops::Bound::{self, Unbounded};
 const HEADER: &str = "run view table start end\n";
 
 fn listed(image: &[u8]) -> String {
-    let listing = lend_text(HEADER.len() + 2 * image.len(), |out| {
-        list(ImageBytes(image), out)
-    });
+    let listing = lend(HEADER.len() + 2 * image.len(), |out| list(image, out));
     String::from_utf8(listing.unwrap()).unwrap()
 }
 
@@ -69,49 +67,40 @@ fn refused_images() -> Vec<(Vec<u8>, u8)> {
 
 #[test]
 fn images_are_accepted() {
-    assert_eq!(check_image(ImageBytes(&example())), Ok(()));
-    assert_eq!(check_image(ImageBytes(&[0])), Ok(()));
-    assert_eq!(check_image(ImageBytes(&starts("c", "c"))), Ok(()));
-    assert_eq!(check_image(ImageBytes(&indexed(1 << 53, 0))), Ok(()));
-    assert_eq!(
-        check_image(ImageBytes(&visible(Unbounded, included("c")))),
-        Ok(())
-    );
+    assert_eq!(check_image(&example()), Ok(()));
+    assert_eq!(check_image(&[0]), Ok(()));
+    assert_eq!(check_image(&starts("c", "c")), Ok(()));
+    assert_eq!(check_image(&indexed(1 << 53, 0)), Ok(()));
+    assert_eq!(check_image(&visible(Unbounded, included("c"))), Ok(()));
 }
 
 #[test]
 fn each_stop_of_an_image() {
     for (image, stop) in refused_images() {
-        assert_eq!(refused(check_image(ImageBytes(&image))), stop);
+        assert_eq!(refused(check_image(&image)), stop);
         // The place is not there either, and the buffers are too short.
-        assert_eq!(
-            refused(compacted_effective_range(ImageBytes(&image), 9, 9)),
-            stop
-        );
-        assert_eq!(lend_text(0, |out| list(ImageBytes(&image), out)), Err(stop));
-        assert_eq!(
-            lend_text(99, |out| list(ImageBytes(&image), out)),
-            Err(stop)
-        );
+        assert_eq!(refused(compacted_effective_range(&image, 9, 9)), stop);
+        assert_eq!(lend(0, |out| list(&image, out)), Err(stop));
+        assert_eq!(lend(99, |out| list(&image, out)), Err(stop));
     }
 }
 
 #[test]
 fn effective_ranges() {
     let image = example();
-    let first = compacted_effective_range(ImageBytes(&image), 0, 0).unwrap();
+    let first = compacted_effective_range(&image, 0, 0).unwrap();
     assert_eq!((first.start, first.end), (included("a"), included("c")));
-    let second = compacted_effective_range(ImageBytes(&image), 0, 1).unwrap();
+    let second = compacted_effective_range(&image, 0, 1).unwrap();
     assert_eq!((second.start, second.end), (included("d"), Unbounded));
     let cut = visible(Unbounded, excluded("f"));
-    let cut = compacted_effective_range(ImageBytes(&cut), 0, 0).unwrap();
+    let cut = compacted_effective_range(&cut, 0, 0).unwrap();
     assert_eq!((cut.start, cut.end), (included("c"), excluded("f")));
 }
 
 #[test]
 fn keys_of_an_effective_range_are_parts_of_the_image() {
     let image = example();
-    let range = compacted_effective_range(ImageBytes(&image), 0, 0).unwrap();
+    let range = compacted_effective_range(&image, 0, 0).unwrap();
     let Bound::Included(start) = range.start else {
         panic!("{range:?}")
     };
@@ -122,15 +111,9 @@ fn keys_of_an_effective_range_are_parts_of_the_image() {
 fn places_that_are_not_there() {
     let image = example();
     for (run, view) in [(0, 2), (1, 0), (usize::MAX, usize::MAX), (0, usize::MAX)] {
-        assert_eq!(
-            refused(compacted_effective_range(ImageBytes(&image), run, view)),
-            9
-        );
+        assert_eq!(refused(compacted_effective_range(&image, run, view)), 9);
     }
-    assert_eq!(
-        refused(compacted_effective_range(ImageBytes(&[0]), 0, 0)),
-        9
-    );
+    assert_eq!(refused(compacted_effective_range(&[0], 0, 0)), 9);
 }
 
 #[test]
@@ -140,18 +123,15 @@ fn the_example_is_listed() {
     let listing = format!("{HEADER}{lines}");
     assert_eq!(listed(&example()), listing);
     let room = listing.len();
-    let exact = lend_text(room, |out| list(ImageBytes(&example()), out));
+    let exact = lend(room, |out| list(&example(), out));
     assert_eq!(exact, Ok(listing.into_bytes()));
-    assert_eq!(
-        lend_text(room - 1, |out| list(ImageBytes(&example()), out)),
-        Err(16)
-    );
+    assert_eq!(lend(room - 1, |out| list(&example(), out)), Err(16));
 }
 
 #[test]
 fn other_listings() {
     assert_eq!(listed(&[0]), HEADER);
-    assert_eq!(lend_text(24, |out| list(ImageBytes(&[0]), out)), Err(16));
+    assert_eq!(lend(24, |out| list(&[0], out)), Err(16));
     let id = 0xFEDC_BA98_7654_3210_0123_4567_89AB_CDEF;
     let view = cut_view(
         3,
@@ -171,7 +151,7 @@ fn other_listings() {
 fn a_run_of_1024_views_is_listed() {
     let views = vec![whole_view(1, table(1, "", "")); 1024];
     let image = image(&[run(7, &views)]);
-    assert_eq!(check_image(ImageBytes(&image)), Ok(()));
-    let listing = lend_text(LISTING_LEN, |out| list(ImageBytes(&image), out)).unwrap();
+    assert_eq!(check_image(&image), Ok(()));
+    let listing = lend(LISTING_LEN, |out| list(&image, out)).unwrap();
     assert_eq!(listing.iter().filter(|&&byte| byte == b'\n').count(), 1025);
 }

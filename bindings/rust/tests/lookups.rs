@@ -31,17 +31,17 @@ fn refused_indexes() -> Vec<(Vec<u8>, u8)> {
 /// Each lookup of a key in an index, stops alone.
 fn lookups(index: &[u8], key: &[u8]) -> [Option<u8>; 5] {
     [
-        partition_point(IndexBytes(index), Test::Below, key).err(),
-        partition_point(IndexBytes(index), Test::AtOrBelow, key).err(),
-        first_partition_including_key(IndexBytes(index), key).err(),
-        first_partition_including_or_after_key(IndexBytes(index), key).err(),
-        last_partition_including_key(IndexBytes(index), key).err(),
+        partition_point(index, Test::Below, key).err(),
+        partition_point(index, Test::AtOrBelow, key).err(),
+        first_partition_including_key(index, key).err(),
+        first_partition_including_or_after_key(index, key).err(),
+        last_partition_including_key(index, key).err(),
     ]
     .map(|stop| stop.map(Stop::number))
 }
 
 fn covering(index: &[u8], start: Bound<&[u8]>, end: Bound<&[u8]>) -> std::ops::Range<usize> {
-    partitions_covering_range(IndexBytes(index), RangeBytes(&range(start, end))).unwrap()
+    partitions_covering_range(index, &range(start, end)).unwrap()
 }
 
 #[test]
@@ -51,20 +51,8 @@ fn each_stop_of_an_index() {
         assert_eq!(lookups(&index, b"a"), [Some(stop); 5]);
         // The key is too long, and the range is none at all.
         assert_eq!(lookups(&index, &key_of(7, 1025)), [Some(stop); 5]);
-        assert_eq!(
-            refused(partitions_covering_range(
-                IndexBytes(&index),
-                RangeBytes(&whole)
-            )),
-            stop
-        );
-        assert_eq!(
-            refused(partitions_covering_range(
-                IndexBytes(&index),
-                RangeBytes(b"\x01")
-            )),
-            stop
-        );
+        assert_eq!(refused(partitions_covering_range(&index, &whole)), stop);
+        assert_eq!(refused(partitions_covering_range(&index, b"\x01")), stop);
     }
 }
 
@@ -75,12 +63,7 @@ fn stops_in_their_order() {
     assert_eq!(lookups(&descends, &key_of(7, 1024)), [Some(6); 5]);
     assert_eq!(lookups(&descends, &key_of(7, 1025)), [Some(3); 5]);
     assert_eq!(lookups(&index(&["a", "a"]), &key_of(7, 1025)), [Some(3); 5]);
-    let refuses = |range: &[u8]| {
-        refused(partitions_covering_range(
-            IndexBytes(&descends),
-            RangeBytes(range),
-        ))
-    };
+    let refuses = |range: &[u8]| refused(partitions_covering_range(&descends, range));
     assert_eq!(refuses(b""), 1);
     assert_eq!(refuses(b"\x01"), 2);
     assert_eq!(refuses(b"\x40\x04\x01"), 3);
@@ -93,7 +76,7 @@ fn partition_points() {
     let index = index(&["a", "b", "b", "d"]);
     let points = |key: &str| {
         [Test::Below, Test::AtOrBelow]
-            .map(|test| partition_point(IndexBytes(&index), test, key.as_bytes()).unwrap())
+            .map(|test| partition_point(&index, test, key.as_bytes()).unwrap())
     };
     assert_eq!(points(""), [0, 0]);
     assert_eq!(points("a"), [0, 1]);
@@ -109,9 +92,9 @@ fn partitions_of_a_key() {
     let found = |key: &str| {
         let key = key.as_bytes();
         [
-            first_partition_including_key(IndexBytes(&index), key).unwrap(),
-            Some(first_partition_including_or_after_key(IndexBytes(&index), key).unwrap()),
-            last_partition_including_key(IndexBytes(&index), key).unwrap(),
+            first_partition_including_key(&index, key).unwrap(),
+            Some(first_partition_including_or_after_key(&index, key).unwrap()),
+            last_partition_including_key(&index, key).unwrap(),
         ]
     };
     assert_eq!(found(""), [None, Some(0), None]);
@@ -149,23 +132,11 @@ fn other_coverings() {
 fn no_partitions() {
     let none = index(&[]);
     for key in [&b""[..], b"a"] {
-        assert_eq!(partition_point(IndexBytes(&none), Test::Below, key), Ok(0));
-        assert_eq!(
-            partition_point(IndexBytes(&none), Test::AtOrBelow, key),
-            Ok(0)
-        );
-        assert_eq!(
-            first_partition_including_key(IndexBytes(&none), key),
-            Ok(None)
-        );
-        assert_eq!(
-            first_partition_including_or_after_key(IndexBytes(&none), key),
-            Ok(0)
-        );
-        assert_eq!(
-            last_partition_including_key(IndexBytes(&none), key),
-            Ok(None)
-        );
+        assert_eq!(partition_point(&none, Test::Below, key), Ok(0));
+        assert_eq!(partition_point(&none, Test::AtOrBelow, key), Ok(0));
+        assert_eq!(first_partition_including_key(&none, key), Ok(None));
+        assert_eq!(first_partition_including_or_after_key(&none, key), Ok(0));
+        assert_eq!(last_partition_including_key(&none, key), Ok(None));
     }
     assert_eq!(covering(&none, Unbounded, Unbounded), 0..0);
     assert_eq!(covering(&none, included("a"), included("a")), 0..0);
@@ -180,19 +151,13 @@ fn an_index_of_65536_bytes() {
     index[last] = 4;
     index.extend(b"zzzz");
     assert_eq!(index.len(), 65_536);
+    assert_eq!(partition_point(&index, Test::AtOrBelow, b""), Ok(6552));
     assert_eq!(
-        partition_point(IndexBytes(&index), Test::AtOrBelow, b""),
-        Ok(6552)
-    );
-    assert_eq!(
-        last_partition_including_key(IndexBytes(&index), b"zzzz"),
+        last_partition_including_key(&index, b"zzzz"),
         Ok(Some(6552))
     );
     index.push(0);
-    assert_eq!(
-        refused(partition_point(IndexBytes(&index), Test::Below, b"")),
-        3
-    );
+    assert_eq!(refused(partition_point(&index, Test::Below, b"")), 3);
 }
 
 // ---- images
@@ -211,11 +176,11 @@ fn runs() -> Vec<u8> {
 /// Each call on the first view of run 7, stops alone.
 fn stops(image: &[u8], run: usize, view: usize, range: &[u8]) -> [Option<u8>; 5] {
     [
-        table_idx_covering_range(ImageBytes(image), run, RangeBytes(range)).err(),
-        overlaps_range(ImageBytes(image), run, RangeBytes(range)).err(),
-        compacted_intersection(ImageBytes(image), run, view, RangeBytes(range)).err(),
-        calculate_view_range(ImageBytes(image), run, view, RangeBytes(range)).err(),
-        intersects_range(ImageBytes(image), run, view, Unbounded, RangeBytes(range)).err(),
+        table_idx_covering_range(image, run, range).err(),
+        overlaps_range(image, run, range).err(),
+        compacted_intersection(image, run, view, range).err(),
+        calculate_view_range(image, run, view, range).err(),
+        intersects_range(image, run, view, Unbounded, range).err(),
     ]
     .map(|stop| stop.map(Stop::number))
 }
@@ -304,56 +269,18 @@ fn the_end_bound_is_checked_before_the_range() {
     let image = runs();
     let long = key_of(7, 1025);
     for end in [Bound::Included(&long[..]), Bound::Excluded(&long)] {
-        assert_eq!(
-            refused(intersects_range(
-                ImageBytes(&image),
-                1,
-                0,
-                end,
-                RangeBytes(b"\x01")
-            )),
-            3
-        );
-        assert_eq!(
-            refused(intersects_range(
-                ImageBytes(&[65]),
-                1,
-                0,
-                end,
-                RangeBytes(b"\x01")
-            )),
-            3
-        );
-        assert_eq!(
-            refused(intersects_range(
-                ImageBytes(&[]),
-                1,
-                0,
-                end,
-                RangeBytes(b"\x01")
-            )),
-            1
-        );
+        assert_eq!(refused(intersects_range(&image, 1, 0, end, b"\x01")), 3);
+        assert_eq!(refused(intersects_range(&[65], 1, 0, end, b"\x01")), 3);
+        assert_eq!(refused(intersects_range(&[], 1, 0, end, b"\x01")), 1);
     }
     let end = Bound::Included(&long[..1024]);
-    assert_eq!(
-        refused(intersects_range(
-            ImageBytes(&image),
-            1,
-            0,
-            end,
-            RangeBytes(b"\x01")
-        )),
-        2
-    );
+    assert_eq!(refused(intersects_range(&image, 1, 0, end, b"\x01")), 2);
 }
 
 #[test]
 fn views_that_cover_a_range() {
     let image = runs();
-    let covering = |start, end| {
-        table_idx_covering_range(ImageBytes(&image), 1, RangeBytes(&range(start, end))).unwrap()
-    };
+    let covering = |start, end| table_idx_covering_range(&image, 1, &range(start, end)).unwrap();
     assert_eq!(covering(Unbounded, Unbounded), 0..3);
     assert_eq!(covering(included("b"), included("b")), 0..1);
     // The gaps count to the view before them.
@@ -364,10 +291,7 @@ fn views_that_cover_a_range() {
     assert_eq!(covering(Unbounded, excluded("a")), 0..0);
     assert_eq!(covering(Unbounded, included("A")), 0..0);
     let whole = range(Unbounded, Unbounded);
-    assert_eq!(
-        table_idx_covering_range(ImageBytes(&image), 0, RangeBytes(&whole)),
-        Ok(0..0)
-    );
+    assert_eq!(table_idx_covering_range(&image, 0, &whole), Ok(0..0));
 }
 
 #[test]
@@ -375,9 +299,7 @@ fn views_of_equal_starts_are_walked_back() {
     let view = |id| whole_view(id, open_table(id, "b"));
     let views = [whole_view(1, open_table(1, "a")), view(2), view(3), view(4)];
     let image = image(&[run(7, &views)]);
-    let covering = |start, end| {
-        table_idx_covering_range(ImageBytes(&image), 0, RangeBytes(&range(start, end))).unwrap()
-    };
+    let covering = |start, end| table_idx_covering_range(&image, 0, &range(start, end)).unwrap();
     // Table 1 has no last key, so it may hold b too.
     assert_eq!(covering(included("b"), included("b")), 0..4);
     assert_eq!(covering(excluded("b"), included("c")), 3..4);
@@ -387,9 +309,7 @@ fn views_of_equal_starts_are_walked_back() {
 #[test]
 fn spans_of_runs() {
     let image = runs();
-    let overlaps = |run, start, end| {
-        overlaps_range(ImageBytes(&image), run, RangeBytes(&range(start, end))).unwrap()
-    };
+    let overlaps = |run, start, end| overlaps_range(&image, run, &range(start, end)).unwrap();
     assert!(overlaps(1, Unbounded, included("a")));
     assert!(!overlaps(1, Unbounded, excluded("a")));
     // The gap between two views is part of the span.
@@ -408,13 +328,13 @@ fn supplied(joined: Joined) -> Supplied {
 
 /// What a view of run 7 keeps.
 fn kept<'a>(image: &'a [u8], view: usize, range: &'a [u8]) -> Option<Supplied<'a>> {
-    let kept = compacted_intersection(ImageBytes(image), 1, view, RangeBytes(range));
+    let kept = compacted_intersection(image, 1, view, range);
     kept.unwrap().map(supplied)
 }
 
 /// What a view of run 7 is read for.
 fn part<'a>(image: &'a [u8], view: usize, range: &'a [u8]) -> Option<Supplied<'a>> {
-    let part = calculate_view_range(ImageBytes(image), 1, view, RangeBytes(range));
+    let part = calculate_view_range(image, 1, view, range);
     part.unwrap().map(supplied)
 }
 
@@ -473,9 +393,7 @@ fn what_a_view_is_read_for() {
 fn keys_are_parts_of_the_image_and_of_the_range() {
     let image = example();
     let asked = range(included("b"), Unbounded);
-    let part = calculate_view_range(ImageBytes(&image), 0, 0, RangeBytes(&asked))
-        .unwrap()
-        .unwrap();
+    let part = calculate_view_range(&image, 0, 0, &asked).unwrap().unwrap();
     let (Bound::Included(start), Bound::Included(end)) = (part.range.start, part.range.end) else {
         panic!("{part:?}")
     };
@@ -486,16 +404,8 @@ fn keys_are_parts_of_the_image_and_of_the_range() {
 #[test]
 fn ranges_up_to_an_end_bound() {
     let image = runs();
-    let meets = |view, end, start, to| {
-        intersects_range(
-            ImageBytes(&image),
-            1,
-            view,
-            end,
-            RangeBytes(&range(start, to)),
-        )
-        .unwrap()
-    };
+    let meets =
+        |view, end, start, to| intersects_range(&image, 1, view, end, &range(start, to)).unwrap();
     // The bound stands in place of the last key c.
     assert!(meets(0, Unbounded, included("x"), included("y")));
     assert!(meets(0, included("x"), included("x"), Unbounded));

@@ -16,19 +16,19 @@ fn blocks() -> Vec<u8> {
 
 fn sampled(most: usize, data_end: u64, index: &[u8], range: &[u8]) -> Result<Vec<u8>, u8> {
     lend(ANCHORS_LEN, |out| {
-        sample_anchors(most, data_end, IndexBytes(index), RangeBytes(range), out)
+        sample_anchors(most, data_end, index, range, out)
     })
 }
 
 fn selected(parts: usize, least: u64, anchors: &[u8]) -> Result<Vec<u8>, u8> {
     lend(PLAN_LEN, |out| {
-        select_boundaries(parts, least, AnchorsBytes(anchors), out)
+        select_boundaries(parts, least, anchors, out)
     })
 }
 
 fn planned(parts: usize, image: &[u8], indexes: &[u8]) -> Result<Vec<u8>, u8> {
     lend(PLAN_LEN, |out| {
-        plan_subcompaction_ranges(parts, ImageBytes(image), IndexesBytes(indexes), out)
+        plan_subcompaction_ranges(parts, image, indexes, out)
     })
 }
 
@@ -89,22 +89,9 @@ fn stops_of_a_sample() {
     assert_eq!(sampled(1, 0, &falls, &whole), Err(6));
     assert_eq!(sampled(1, 0, &[0; 65_537], &whole), Err(3));
     let room = anchors(&[("a", 100)]).len();
-    assert!(lend(room, |out| sample_anchors(
-        1,
-        100,
-        IndexBytes(&good),
-        RangeBytes(&whole),
-        out
-    ))
-    .is_ok());
+    assert!(lend(room, |out| sample_anchors(1, 100, &good, &whole, out)).is_ok());
     assert_eq!(
-        lend(room - 1, |out| sample_anchors(
-            1,
-            100,
-            IndexBytes(&good),
-            RangeBytes(&whole),
-            out
-        )),
+        lend(room - 1, |out| sample_anchors(1, 100, &good, &whole, out)),
         Err(16)
     );
 }
@@ -192,12 +179,7 @@ fn the_longest_plan() {
     let given = anchors(&list);
     assert_eq!(selected(64, 0, &given), Ok(due));
     assert_eq!(
-        lend(PLAN_LEN - 1, |out| select_boundaries(
-            64,
-            0,
-            AnchorsBytes(&given),
-            out
-        )),
+        lend(PLAN_LEN - 1, |out| select_boundaries(64, 0, &given, out)),
         Err(16)
     );
 }

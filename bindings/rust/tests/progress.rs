@@ -10,13 +10,11 @@ fn durable(parts: &[Vec<u8>]) -> Result<Vec<u8>, u8> {
 }
 
 fn of_job(job: &[u8]) -> Result<Vec<u8>, u8> {
-    lend(DURABLE_LEN, |out| from_compaction(JobBytes(job), out))
+    lend(DURABLE_LEN, |out| from_compaction(job, out))
 }
 
 fn left(interval: &[u8], range: &[u8]) -> Result<Vec<u8>, u8> {
-    lend(LEFT_LEN, |out| {
-        subtract_from(RangeBytes(interval), RangeBytes(range), out)
-    })
+    lend(LEFT_LEN, |out| subtract_from(interval, range, out))
 }
 
 /// A count and these ranges.
@@ -67,7 +65,7 @@ fn what_a_commit_takes_out() {
     let rest = left(&intervals[1..], &range(included("a"), included("c"))).unwrap();
     let mut room = [0; IMAGE_LEN];
     let job = job(7, &[7], &parts);
-    let image = commit(ImageBytes(&example()), JobBytes(&job), &[5; 20], &mut room).unwrap();
+    let image = commit(&example(), &job, &[5; 20], &mut room).unwrap();
     let shown = [
         range(included("a"), excluded("b")),
         range(included("c"), included("c")),
@@ -102,11 +100,8 @@ fn stops_of_a_job() {
         Err(11)
     );
     let good = job(7, &[7], &[part(planned(), true, &[])]);
-    assert!(lend(8, |out| from_compaction(JobBytes(&good), out)).is_ok());
-    assert_eq!(
-        lend(7, |out| from_compaction(JobBytes(&good), out)),
-        Err(16)
-    );
+    assert!(lend(8, |out| from_compaction(&good, out)).is_ok());
+    assert_eq!(lend(7, |out| from_compaction(&good, out)), Err(16));
 }
 
 #[test]
@@ -122,7 +117,7 @@ fn as_many_bytes_as_the_job_has_are_enough() {
     let job = job(7, &[7], &parts);
     let intervals = of_job(&job).unwrap();
     assert_eq!(intervals.len(), 1 + 31 * 2053);
-    assert!(lend(job.len(), |out| from_compaction(JobBytes(&job), out)).is_ok());
+    assert!(lend(job.len(), |out| from_compaction(&job, out)).is_ok());
 }
 
 #[test]
@@ -208,14 +203,7 @@ fn stops_of_an_interval() {
         left(&good, &starts),
         Ok(ranges(&[&range(included("f"), Unbounded)]))
     );
-    assert_eq!(
-        lend(0, |out| subtract_from(
-            RangeBytes(&good),
-            RangeBytes(&good),
-            out
-        )),
-        Err(16)
-    );
+    assert_eq!(lend(0, |out| subtract_from(&good, &good, out)), Err(16));
 }
 
 #[test]
@@ -226,11 +214,7 @@ fn the_longest_that_is_left() {
     let answer = left(&interval, &wide).unwrap();
     assert_eq!(answer.len(), LEFT_LEN);
     assert_eq!(
-        lend(LEFT_LEN - 1, |out| subtract_from(
-            RangeBytes(&interval),
-            RangeBytes(&wide),
-            out
-        )),
+        lend(LEFT_LEN - 1, |out| subtract_from(&interval, &wide, out)),
         Err(16)
     );
 }

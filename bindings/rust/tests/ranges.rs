@@ -104,23 +104,13 @@ fn bounds_with_long_keys_are_refused() {
 
 #[test]
 fn range_images() {
-    assert_eq!(Range::all().to_bytes().unwrap(), b"\x00");
+    assert_eq!(range_image(Unbounded, Unbounded).unwrap(), b"\x00");
     assert_eq!(
-        Range {
-            start: Unbounded,
-            end: excluded("")
-        }
-        .to_bytes()
-        .unwrap(),
+        range_image(Unbounded, excluded("")).unwrap(),
         b"\x20\x00\x00"
     );
     assert_eq!(
-        Range {
-            start: excluded("a"),
-            end: included("bc")
-        }
-        .to_bytes()
-        .unwrap(),
+        range_image(excluded("a"), included("bc")).unwrap(),
         b"\x90\x00\x01a\x00\x02bc"
     );
 }
@@ -129,108 +119,61 @@ fn range_images() {
 fn range_images_of_long_keys() {
     let whole = key_of(7, 1024);
     let whole = Bound::Included(&whole[..]);
-    let image = Range {
-        start: whole,
-        end: whole,
-    }
-    .to_bytes()
-    .unwrap();
+    let image = range_image(whole, whole).unwrap();
     assert_eq!(image.len(), RANGE_LEN);
-    assert_eq!(
-        as_point(RangeBytes(&image)).unwrap(),
-        Some(&key_of(7, 1024)[..])
-    );
+    assert_eq!(as_point(&image).unwrap(), Some(&key_of(7, 1024)[..]));
     for length in [1025, 65_535, 65_536, 65_537] {
         let long = key_of(7, length);
-        assert_eq!(
-            refused(
-                Range {
-                    start: Bound::Included(&long),
-                    end: Unbounded
-                }
-                .to_bytes()
-            ),
-            3
-        );
-        assert_eq!(
-            refused(
-                Range {
-                    start: Unbounded,
-                    end: Bound::Excluded(&long)
-                }
-                .to_bytes()
-            ),
-            3
-        );
+        assert_eq!(refused(range_image(Bound::Included(&long), Unbounded)), 3);
+        assert_eq!(refused(range_image(Unbounded, Bound::Excluded(&long))), 3);
     }
 }
 
 #[test]
 fn non_empty_as_slatedb_has_it() {
-    assert_eq!(non_empty(RangeBytes(&empty())), Ok(false));
-    assert_eq!(
-        non_empty(RangeBytes(&range(included("a"), included("a")))),
-        Ok(true)
-    );
-    assert_eq!(
-        non_empty(RangeBytes(&range(excluded("a"), excluded("a\0")))),
-        Ok(true)
-    );
-    assert_eq!(
-        non_empty(RangeBytes(&range(Unbounded, excluded("")))),
-        Ok(true)
-    );
-    assert_eq!(
-        non_empty(RangeBytes(&range(included("b"), excluded("a")))),
-        Ok(false)
-    );
-    assert_eq!(
-        non_empty(RangeBytes(&range(Unbounded, Unbounded))),
-        Ok(true)
-    );
-    refuses_damage(|image| refused(non_empty(RangeBytes(image))));
+    assert_eq!(non_empty(&empty()), Ok(false));
+    assert_eq!(non_empty(&range(included("a"), included("a"))), Ok(true));
+    assert_eq!(non_empty(&range(excluded("a"), excluded("a\0"))), Ok(true));
+    assert_eq!(non_empty(&range(Unbounded, excluded(""))), Ok(true));
+    assert_eq!(non_empty(&range(included("b"), excluded("a"))), Ok(false));
+    assert_eq!(non_empty(&range(Unbounded, Unbounded)), Ok(true));
+    refuses_damage(|image| refused(non_empty(image)));
 }
 
 #[test]
 fn ranges_hold_keys() {
     let from_a = range(included("a"), excluded("c"));
-    assert_eq!(contains(RangeBytes(&from_a), b"a"), Ok(true));
-    assert_eq!(contains(RangeBytes(&from_a), b"b\xFF"), Ok(true));
-    assert_eq!(contains(RangeBytes(&from_a), b"c"), Ok(false));
-    assert_eq!(contains(RangeBytes(&from_a), b""), Ok(false));
+    assert_eq!(contains(&from_a, b"a"), Ok(true));
+    assert_eq!(contains(&from_a, b"b\xFF"), Ok(true));
+    assert_eq!(contains(&from_a, b"c"), Ok(false));
+    assert_eq!(contains(&from_a, b""), Ok(false));
     let between = range(excluded("a"), excluded("a\0"));
-    assert_eq!(contains(RangeBytes(&between), b"a"), Ok(false));
-    assert_eq!(contains(RangeBytes(&between), b"a\0"), Ok(false));
+    assert_eq!(contains(&between, b"a"), Ok(false));
+    assert_eq!(contains(&between, b"a\0"), Ok(false));
 }
 
 #[test]
 fn contains_refuses() {
-    refuses_damage(|image| refused(contains(RangeBytes(image), b"a")));
-    assert_eq!(refused(contains(RangeBytes(&empty()), b"a")), 4);
+    refuses_damage(|image| refused(contains(image, b"a")));
+    assert_eq!(refused(contains(&empty(), b"a")), 4);
     // The key's length comes before check 4, and the range's fields before it.
-    assert_eq!(refused(contains(RangeBytes(&empty()), &key_of(7, 1025))), 3);
-    assert_eq!(refused(contains(RangeBytes(b"\x01"), &key_of(7, 1025))), 2);
+    assert_eq!(refused(contains(&empty(), &key_of(7, 1025))), 3);
+    assert_eq!(refused(contains(b"\x01", &key_of(7, 1025))), 2);
 }
 
 #[test]
 fn points() {
     let point = range(included("abc"), included("abc"));
-    let key = as_point(RangeBytes(&point)).unwrap().unwrap();
+    let key = as_point(&point).unwrap().unwrap();
     assert_eq!(key, b"abc");
     assert_eq!(key.as_ptr(), point[3..].as_ptr());
     let empty_key = range(included(""), included(""));
-    assert_eq!(as_point(RangeBytes(&empty_key)), Ok(Some(&b""[..])));
-    assert_eq!(
-        as_point(RangeBytes(&range(included("a"), included("b")))),
-        Ok(None)
-    );
-    assert_eq!(
-        as_point(RangeBytes(&range(excluded("a"), excluded("a\0")))),
-        Ok(None)
-    );
-    assert_eq!(as_point(RangeBytes(&range(Unbounded, Unbounded))), Ok(None));
-    refuses_damage(|image| refused(as_point(RangeBytes(image))));
-    assert_eq!(refused(as_point(RangeBytes(&empty()))), 4);
+    assert_eq!(as_point(&empty_key), Ok(Some(&b""[..])));
+    assert_eq!(as_point(&range(included("a"), included("b"))), Ok(None));
+    assert_eq!(as_point(&range(excluded("a"), excluded("a\0"))), Ok(None));
+    assert_eq!(as_point(&range(Unbounded, Unbounded)), Ok(None));
+    refuses_damage(|image| refused(as_point(image)));
+    assert_eq!(refused(as_point(&empty())), 4);
 }
 
 fn answered<'a>(
@@ -251,25 +194,22 @@ fn intersections() {
     let a = range(included("a"), included("m"));
     let b = range(excluded("c"), excluded("z"));
     assert_eq!(
-        intersect(RangeBytes(&a), RangeBytes(&b)).unwrap(),
+        intersect(&a, &b).unwrap(),
         answered(excluded("c"), included("m"), [Second, First])
     );
     assert_eq!(
-        intersect(RangeBytes(&b), RangeBytes(&a)).unwrap(),
+        intersect(&b, &a).unwrap(),
         answered(excluded("c"), included("m"), [First, Second])
     );
     let apart = range(included("n"), Unbounded);
-    assert_eq!(intersect(RangeBytes(&a), RangeBytes(&apart)), Ok(None));
+    assert_eq!(intersect(&a, &apart), Ok(None));
 }
 
 #[test]
 fn keys_of_an_intersection_are_parts_of_the_slices() {
     let a = range(included("a"), included("m"));
     let b = range(included("c"), Unbounded);
-    let both = intersect(RangeBytes(&a), RangeBytes(&b))
-        .unwrap()
-        .unwrap()
-        .range;
+    let both = intersect(&a, &b).unwrap().unwrap().range;
     let Range {
         start: Bound::Included(start),
         end: Bound::Included(end),
@@ -285,14 +225,14 @@ fn keys_of_an_intersection_are_parts_of_the_slices() {
 fn of_equal_bounds_the_seconds_start_and_the_firsts_end() {
     let a = range(included("a"), included("m"));
     let b = a.clone();
-    let both = intersect(RangeBytes(&a), RangeBytes(&b)).unwrap();
+    let both = intersect(&a, &b).unwrap();
     assert_eq!(
         both,
         answered(included("a"), included("m"), [Side::Second, Side::First])
     );
     let whole = range(Unbounded, Unbounded);
     assert_eq!(
-        intersect(RangeBytes(&whole), RangeBytes(&whole)).unwrap(),
+        intersect(&whole, &whole).unwrap(),
         answered(Unbounded, Unbounded, [Side::Second, Side::First])
     );
 }
@@ -311,15 +251,11 @@ fn refuses_pairs<'a, T: std::fmt::Debug>(call: impl Fn(Vec<u8>, Vec<u8>) -> Resu
 
 #[test]
 fn intersect_and_union_refuse() {
-    refuses_pairs(|a, b| intersect(RangeBytes(&a), RangeBytes(&b)).map(|joined| joined.is_some()));
-    refuses_pairs(|a, b| union(RangeBytes(&a), RangeBytes(&b)).map(|joined| joined.is_some()));
+    refuses_pairs(|a, b| intersect(&a, &b).map(|joined| joined.is_some()));
+    refuses_pairs(|a, b| union(&a, &b).map(|joined| joined.is_some()));
     // Check 16 comes last.
-    refuses_pairs(|a, b| {
-        intersect_start_key(RangeBytes(&a), RangeBytes(&b), &mut []).map(|key| key.len())
-    });
-    refuses_pairs(|a, b| {
-        intersect_end_key(RangeBytes(&a), RangeBytes(&b), &mut [0; 9]).map(|key| key.len())
-    });
+    refuses_pairs(|a, b| intersect_start_key(&a, &b, &mut []).map(|key| key.len()));
+    refuses_pairs(|a, b| intersect_end_key(&a, &b, &mut [0; 9]).map(|key| key.len()));
 }
 
 #[test]
@@ -327,39 +263,15 @@ fn keys_of_an_intersection() {
     let a = range(included("a"), included("lamp"));
     let b = range(excluded("cable"), Unbounded);
     assert_eq!(
-        lend(8, |out| intersect_start_key(
-            RangeBytes(&a),
-            RangeBytes(&b),
-            out
-        ))
-        .unwrap(),
+        lend(8, |out| intersect_start_key(&a, &b, out)).unwrap(),
         b"cable"
     );
     assert_eq!(
-        lend(4, |out| intersect_end_key(
-            RangeBytes(&a),
-            RangeBytes(&b),
-            out
-        ))
-        .unwrap(),
+        lend(4, |out| intersect_end_key(&a, &b, out)).unwrap(),
         b"lamp"
     );
-    assert_eq!(
-        lend(4, |out| intersect_start_key(
-            RangeBytes(&a),
-            RangeBytes(&b),
-            out
-        )),
-        Err(16)
-    );
-    assert_eq!(
-        lend(3, |out| intersect_end_key(
-            RangeBytes(&a),
-            RangeBytes(&b),
-            out
-        )),
-        Err(16)
-    );
+    assert_eq!(lend(4, |out| intersect_start_key(&a, &b, out)), Err(16));
+    assert_eq!(lend(3, |out| intersect_end_key(&a, &b, out)), Err(16));
 }
 
 #[test]
@@ -368,22 +280,8 @@ fn no_key_where_there_is_no_bound_with_one() {
     let apart = range(included("d"), Unbounded);
     let whole = range(Unbounded, Unbounded);
     for (a, b) in [(&a, &apart), (&whole, &whole)] {
-        assert_eq!(
-            lend(0, |out| intersect_start_key(
-                RangeBytes(a),
-                RangeBytes(b),
-                out
-            )),
-            Ok(vec![])
-        );
-        assert_eq!(
-            lend(9, |out| intersect_end_key(
-                RangeBytes(a),
-                RangeBytes(b),
-                out
-            )),
-            Ok(vec![])
-        );
+        assert_eq!(lend(0, |out| intersect_start_key(a, b, out)), Ok(vec![]));
+        assert_eq!(lend(9, |out| intersect_end_key(a, b, out)), Ok(vec![]));
     }
 }
 
@@ -393,23 +291,23 @@ fn unions() {
     let a = range(included("a"), excluded("c"));
     let c = range(included("c"), included("f"));
     assert_eq!(
-        union(RangeBytes(&a), RangeBytes(&c)).unwrap(),
+        union(&a, &c).unwrap(),
         answered(included("a"), included("f"), [First, Second])
     );
     assert_eq!(
-        union(RangeBytes(&c), RangeBytes(&a)).unwrap(),
+        union(&c, &a).unwrap(),
         answered(included("a"), included("f"), [Second, First])
     );
     // Of equal ranges the second's start, and of equal ends the other's.
     assert_eq!(
-        union(RangeBytes(&a), RangeBytes(&a)).unwrap(),
+        union(&a, &a).unwrap(),
         answered(included("a"), excluded("c"), [Second, First])
     );
     let after_c = range(excluded("c"), Unbounded);
-    assert_eq!(union(RangeBytes(&a), RangeBytes(&after_c)), Ok(None));
+    assert_eq!(union(&a, &after_c), Ok(None));
     let point = range(included("a"), included("a"));
     let next = range(included("a\0"), included("b"));
-    assert_eq!(union(RangeBytes(&point), RangeBytes(&next)), Ok(None));
+    assert_eq!(union(&point, &next), Ok(None));
 }
 
 #[test]
@@ -435,10 +333,7 @@ fn from_prefix_refuses() {
 fn subranges() {
     let join = |prefix: &[u8], start, end| {
         let subrange = range(start, end);
-        lend(64, |out| {
-            from_prefix_and_subrange(prefix, RangeBytes(&subrange), out)
-        })
-        .unwrap()
+        lend(64, |out| from_prefix_and_subrange(prefix, &subrange, out)).unwrap()
     };
     assert_eq!(
         join(b"x", included("a"), excluded("c")),
@@ -458,9 +353,7 @@ fn subranges() {
 #[test]
 fn from_prefix_and_subrange_refuses() {
     let join = |prefix: &[u8], subrange: &[u8], room| {
-        lend(room, |out| {
-            from_prefix_and_subrange(prefix, RangeBytes(subrange), out)
-        })
+        lend(room, |out| from_prefix_and_subrange(prefix, subrange, out))
     };
     refuses_damage(|image| join(b"x", image, 64).unwrap_err());
     let a = range(included("a"), Unbounded);

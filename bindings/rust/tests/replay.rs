@@ -1,10 +1,9 @@
 //! The recorded answers that the programs replay_ranges, replay_images, replay_commits, replay_lookups and replay_plans replay
-//! in Rattle, replayed through the C interface. oracle/README.md has the layouts of the records. The values of this crate, and
-//! the places of refusals, are held to the proved calls on the same bytes.
+//! in Rattle, replayed through the C interface. oracle/README.md has the layouts of the records.
 mod common;
 
 use bilqarush::*;
-use common::{agree, lend, lend_text};
+use common::lend;
 use std::fs;
 use std::ops::Bound;
 
@@ -102,7 +101,7 @@ fn joined_record(a: &[u8], b: &[u8], joined: Option<Joined>) -> Vec<u8> {
     let ((from, from_slice), (to, to_slice)) = (side(joined.start_from), side(joined.end_from));
     [
         vec![1, from, to],
-        Range { start, end }.to_bytes().unwrap(),
+        range_image(start, end).unwrap(),
         place_record(from_slice, start),
         place_record(to_slice, end),
     ]
@@ -124,19 +123,15 @@ fn key_of(bound: Bound<&[u8]>) -> Vec<u8> {
 
 /// The calls for the keys alone answer those of `intersect`, and stop as it does.
 fn keys_agree(a: &[u8], b: &[u8]) {
-    let answer = intersect(RangeBytes(a), RangeBytes(b)).map_err(Stop::number);
+    let answer = intersect(a, b).map_err(Stop::number);
     let keys = match answer {
         Ok(Some(joined)) => [joined.range.start, joined.range.end].map(|bound| Ok(key_of(bound))),
         Ok(None) => [Ok(vec![]), Ok(vec![])],
         Err(stop) => [Err(stop), Err(stop)],
     };
     let room = |i: usize| keys[i].as_ref().map_or(0, Vec::len);
-    let start = lend(room(0), |out| {
-        intersect_start_key(RangeBytes(a), RangeBytes(b), out)
-    });
-    let end = lend(room(1) + 1, |out| {
-        intersect_end_key(RangeBytes(a), RangeBytes(b), out)
-    });
+    let start = lend(room(0), |out| intersect_start_key(a, b, out));
+    let end = lend(room(1) + 1, |out| intersect_end_key(a, b, out));
     assert_eq!([start, end], keys);
 }
 
@@ -144,22 +139,16 @@ fn range_record(call: usize, x: [u8; 3], room: usize, a: &[u8], b: &[u8]) -> Vec
     match call {
         1 => outcome(compare(a, b), |order| order_number(order as i8)),
         2 => cmp_bound_record(x, a, b),
-        3 => outcome(non_empty(RangeBytes(a)), |is| vec![is.into()]),
+        3 => outcome(non_empty(a), |is| vec![is.into()]),
         4 => {
             keys_agree(a, b);
-            outcome(intersect(RangeBytes(a), RangeBytes(b)), |joined| {
-                joined_record(a, b, joined)
-            })
+            outcome(intersect(a, b), |joined| joined_record(a, b, joined))
         }
-        5 => outcome(union(RangeBytes(a), RangeBytes(b)), |joined| {
-            joined_record(a, b, joined)
-        }),
+        5 => outcome(union(a, b), |joined| joined_record(a, b, joined)),
         6 => recorded(lend(room, |out| from_prefix(a, out))),
-        7 => recorded(lend(room, |out| {
-            from_prefix_and_subrange(a, RangeBytes(b), out)
-        })),
-        8 => outcome(as_point(RangeBytes(a)), |key| point_record(a, key)),
-        9 => outcome(contains(RangeBytes(a), b), |is| vec![is.into()]),
+        7 => recorded(lend(room, |out| from_prefix_and_subrange(a, b, out))),
+        8 => outcome(as_point(a), |key| point_record(a, key)),
+        9 => outcome(contains(a, b), |is| vec![is.into()]),
         _ => panic!("call {call}"),
     }
 }
@@ -175,8 +164,6 @@ fn ranges() {
         let room = number(&mut rest, 2);
         let lengths = [0; 3].map(|_| number(&mut rest, 2));
         let [a, b, answer] = lengths.map(|length| take(&mut rest, length));
-        agree::range(a);
-        agree::range(b);
         let made = range_record(call, x, room, a, b);
         assert_eq!(
             made, answer,
@@ -229,7 +216,7 @@ fn bound_in(image: &[u8], bound: Bound<&[u8]>) -> (u8, Vec<u8>) {
     (kind, [place, &length].concat())
 }
 
-fn effective_record(image: &[u8], range: Range<&[u8]>) -> Vec<u8> {
+fn effective_record(image: &[u8], range: Range) -> Vec<u8> {
     let (start_kind, start) = bound_in(image, range.start);
     let (end_kind, end) = bound_in(image, range.end);
     [vec![start_kind, end_kind], start, end].concat()
@@ -252,15 +239,12 @@ fn images() {
                 repeat(&mut image, &record);
                 continue;
             }
-            1 => {
-                agree::every(&image);
-                outcome(check_image(ImageBytes(&image)), |()| vec![])
-            }
+            1 => outcome(check_image(&image), |()| vec![]),
             2 => outcome(
-                compacted_effective_range(ImageBytes(&image), record.x, record.y),
+                compacted_effective_range(&image, record.x, record.y),
                 |range| effective_record(&image, range),
             ),
-            3 => recorded(lend_text(record.x, |out| list(ImageBytes(&image), out))),
+            3 => recorded(lend(record.x, |out| list(&image, out))),
             call => panic!("call {call}"),
         };
         assert_eq!(made, record.bytes, "call {} on {image:x?}", record.call);
@@ -271,12 +255,7 @@ fn images() {
 
 /// A commit of what the buffers hold. In a list it makes what it wrote the image.
 fn commit_record(record: &Record, [image, job, ids, answer]: &mut [Vec<u8>; 4]) {
-    agree::image(image);
-    agree::job(job);
-    agree::commit(image, job, ids);
-    let made = lend(record.x, |out| {
-        commit(ImageBytes(image), JobBytes(job), ids, out)
-    });
+    let made = lend(record.x, |out| commit(image, job, ids, out));
     assert_eq!(
         recorded(made.clone()),
         *answer,
@@ -375,7 +354,7 @@ fn intersects_record(image: &[u8], run: usize, view: usize, asked: &Asked) -> Ve
         stop => vec![stop],
     };
     if let Some(end) = bound(asked.number, end) {
-        let is = intersects_range(ImageBytes(image), run, view, end, RangeBytes(range));
+        let is = intersects_range(image, run, view, end, range);
         assert_eq!(outcome(is, |is| vec![is.into()]), made);
     }
     made
@@ -399,50 +378,27 @@ fn lookup_record(held: &[u8], record: &Record, asked: &Asked) -> Vec<u8> {
     match record.call {
         1 => {
             let test = [Test::Below, Test::AtOrBelow][usize::from(number)];
-            outcome(partition_point(IndexBytes(held), test, key), long_number)
+            outcome(partition_point(held, test, key), long_number)
         }
-        2 => outcome(
-            first_partition_including_key(IndexBytes(held), key),
-            found_record,
-        ),
+        2 => outcome(first_partition_including_key(held, key), found_record),
         3 => outcome(
-            first_partition_including_or_after_key(IndexBytes(held), key),
+            first_partition_including_or_after_key(held, key),
             long_number,
         ),
-        4 => outcome(
-            last_partition_including_key(IndexBytes(held), key),
-            found_record,
-        ),
-        5 => outcome(
-            partitions_covering_range(IndexBytes(held), RangeBytes(range)),
-            places_record,
-        ),
-        6 => outcome(
-            table_idx_covering_range(ImageBytes(held), run, RangeBytes(range)),
-            places_record,
-        ),
-        7 => outcome(
-            overlaps_range(ImageBytes(held), run, RangeBytes(range)),
-            |is| vec![is.into()],
-        ),
-        8 => outcome(
-            compacted_intersection(ImageBytes(held), run, view, RangeBytes(range)),
-            |kept| kept_record(held, range, kept),
-        ),
-        9 => outcome(
-            calculate_view_range(ImageBytes(held), run, view, RangeBytes(range)),
-            |part| kept_record(held, range, part),
-        ),
+        4 => outcome(last_partition_including_key(held, key), found_record),
+        5 => outcome(partitions_covering_range(held, range), places_record),
+        6 => outcome(table_idx_covering_range(held, run, range), places_record),
+        7 => outcome(overlaps_range(held, run, range), |is| vec![is.into()]),
+        8 => outcome(compacted_intersection(held, run, view, range), |kept| {
+            kept_record(held, range, kept)
+        }),
+        9 => outcome(calculate_view_range(held, run, view, range), |part| {
+            kept_record(held, range, part)
+        }),
         10 => intersects_record(held, run, view, asked),
-        12 => outcome(visible_fraction(ImageBytes(held), run, view), shown_record),
-        13 => outcome(
-            estimate_visible_size(ImageBytes(held), run, view),
-            size_record,
-        ),
-        14 => outcome(
-            estimate_run_visible_size(ImageBytes(held), run),
-            size_record,
-        ),
+        12 => outcome(visible_fraction(held, run, view), shown_record),
+        13 => outcome(estimate_visible_size(held, run, view), size_record),
+        14 => outcome(estimate_run_visible_size(held, run), size_record),
         call => panic!("call {call}"),
     }
 }
@@ -468,10 +424,6 @@ fn lookups() {
                     key,
                     range,
                 };
-                agree::range(range);
-                if call <= 5 {
-                    agree::index(&held);
-                }
                 let made = lookup_record(&held, &record, &asked);
                 assert_eq!(
                     made, answer,
@@ -489,11 +441,11 @@ fn lookups() {
 fn plan_record(record: &Record, room: usize, [first, second, _]: &[Vec<u8>; 3]) -> Vec<u8> {
     let (setting, other) = (record.x, record.y as u64);
     recorded(lend(room, |out| match record.call {
-        1 => sample_anchors(setting, other, IndexBytes(first), RangeBytes(second), out),
-        2 => select_boundaries(setting, other, AnchorsBytes(first), out),
-        3 => plan_subcompaction_ranges(setting, ImageBytes(first), IndexesBytes(second), out),
-        10 => from_compaction(JobBytes(first), out),
-        11 => subtract_from(RangeBytes(first), RangeBytes(second), out),
+        1 => sample_anchors(setting, other, first, second, out),
+        2 => select_boundaries(setting, other, first, out),
+        3 => plan_subcompaction_ranges(setting, first, second, out),
+        10 => from_compaction(first, out),
+        11 => subtract_from(first, second, out),
         call => panic!("call {call}"),
     }))
 }
@@ -516,13 +468,6 @@ fn plans() {
                 assert!(bytes.is_empty());
                 let made = plan_record(&record, room, &buffers);
                 let [first, second, answer] = &buffers;
-                match call {
-                    1 => agree::index(first),
-                    2 => agree::anchors(first),
-                    3 => agree::plan(record.x, first, second),
-                    10 => agree::job(first),
-                    _ => agree::range(first),
-                }
                 assert!(
                     made == *answer,
                     "call {call}, {}, {}, room {room}, {first:x?}, {second:x?}",

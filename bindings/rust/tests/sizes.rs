@@ -18,15 +18,15 @@ fn cut(first: &str, last: &str, start: Bound<&[u8]>, end: Bound<&[u8]>) -> Vec<u
 
 /// How much of such a table is visible.
 fn fraction(first: &str, last: &str, start: Bound<&[u8]>, end: Bound<&[u8]>) -> VisibleFraction {
-    visible_fraction(ImageBytes(&cut(first, last, start, end)), 0, 0).unwrap()
+    visible_fraction(&cut(first, last, start, end), 0, 0).unwrap()
 }
 
 /// Each call, stops alone.
 fn stops(image: &[u8], run: usize, view: usize) -> [Option<u8>; 3] {
     [
-        visible_fraction(ImageBytes(image), run, view).err(),
-        estimate_visible_size(ImageBytes(image), run, view).err(),
-        estimate_run_visible_size(ImageBytes(image), run).err(),
+        visible_fraction(image, run, view).err(),
+        estimate_visible_size(image, run, view).err(),
+        estimate_run_visible_size(image, run).err(),
     ]
     .map(|stop| stop.map(Stop::number))
 }
@@ -79,13 +79,10 @@ fn places_that_are_not_there() {
 fn what_is_whole() {
     // No visible range; no last key, with a visible range and without.
     let image = example();
-    assert_eq!(visible_fraction(ImageBytes(&image), 0, 0), Ok(Whole));
-    assert_eq!(visible_fraction(ImageBytes(&image), 0, 1), Ok(Whole));
+    assert_eq!(visible_fraction(&image, 0, 0), Ok(Whole));
+    assert_eq!(visible_fraction(&image, 0, 1), Ok(Whole));
     let open = cut_view(1, open_table(1, "a"), range(included("b"), excluded("c")));
-    assert_eq!(
-        visible_fraction(ImageBytes(&of_view(open)), 0, 0),
-        Ok(Whole)
-    );
+    assert_eq!(visible_fraction(&of_view(open), 0, 0), Ok(Whole));
     // All of the table is visible.
     assert_eq!(fraction("a", "z", Unbounded, Unbounded), Whole);
     assert_eq!(fraction("a", "z", included("a"), included("z")), Whole);
@@ -156,7 +153,7 @@ fn size(index: [u64; 2], visible: Option<Vec<u8>>) -> u64 {
         None => whole_view(1, table),
         Some(visible) => cut_view(1, table, visible),
     };
-    estimate_visible_size(ImageBytes(&of_view(view)), 0, 0).unwrap()
+    estimate_visible_size(&of_view(view), 0, 0).unwrap()
 }
 
 #[test]
@@ -206,19 +203,13 @@ fn sizes_of_runs() {
         cut_view(3, sized(3, 0), half()),
     ];
     let image = image(&[run(5, &[]), run(7, &views)]);
-    assert_eq!(estimate_run_visible_size(ImageBytes(&image), 0), Ok(0));
-    assert_eq!(
-        estimate_run_visible_size(ImageBytes(&image), 1),
-        Ok(3 + 100 + 1)
-    );
+    assert_eq!(estimate_run_visible_size(&image, 0), Ok(0));
+    assert_eq!(estimate_run_visible_size(&image, 1), Ok(3 + 100 + 1));
 }
 
 #[test]
 fn a_run_of_1024_views_of_the_largest_size() {
     let view = whole_view(1, sized_table(1, "", None, [1 << 53, 0]));
     let image = image(&[run(7, &vec![view; 1024])]);
-    assert_eq!(
-        estimate_run_visible_size(ImageBytes(&image), 0),
-        Ok(1 << 63)
-    );
+    assert_eq!(estimate_run_visible_size(&image, 0), Ok(1 << 63));
 }

@@ -38,7 +38,7 @@ fn no_other_number_is_a_stop() {
 
 #[test]
 fn a_stop_is_an_error() {
-    let stop = bilqarush::check_image(ImageBytes(b"")).unwrap_err();
+    let stop = bilqarush::check_image(b"").unwrap_err();
     let error: Box<dyn Error + Send + Sync> = stop.into();
     assert_eq!(error.to_string(), WORDS[0]);
 }
@@ -47,25 +47,24 @@ fn a_stop_is_an_error() {
 fn no_bytes_are_stop_1_of_each_lookup_size_plan_and_interval() {
     let nothing = b"";
     let stops = [
-        partition_point(IndexBytes(nothing), Test::Below, b"a").unwrap_err(),
-        first_partition_including_key(IndexBytes(nothing), b"a").unwrap_err(),
-        first_partition_including_or_after_key(IndexBytes(nothing), b"a").unwrap_err(),
-        last_partition_including_key(IndexBytes(nothing), b"a").unwrap_err(),
-        partitions_covering_range(IndexBytes(nothing), RangeBytes(nothing)).unwrap_err(),
-        table_idx_covering_range(ImageBytes(nothing), 0, RangeBytes(nothing)).unwrap_err(),
-        overlaps_range(ImageBytes(nothing), 0, RangeBytes(nothing)).unwrap_err(),
-        compacted_intersection(ImageBytes(nothing), 0, 0, RangeBytes(nothing)).unwrap_err(),
-        calculate_view_range(ImageBytes(nothing), 0, 0, RangeBytes(nothing)).unwrap_err(),
-        intersects_range(ImageBytes(nothing), 0, 0, Unbounded, RangeBytes(nothing)).unwrap_err(),
-        visible_fraction(ImageBytes(nothing), 0, 0).unwrap_err(),
-        estimate_visible_size(ImageBytes(nothing), 0, 0).unwrap_err(),
-        estimate_run_visible_size(ImageBytes(nothing), 0).unwrap_err(),
-        sample_anchors(1, 0, IndexBytes(nothing), RangeBytes(nothing), &mut []).unwrap_err(),
-        select_boundaries(1, 0, AnchorsBytes(nothing), &mut []).unwrap_err(),
-        plan_subcompaction_ranges(1, ImageBytes(nothing), IndexesBytes(nothing), &mut [])
-            .unwrap_err(),
-        from_compaction(JobBytes(nothing), &mut []).unwrap_err(),
-        subtract_from(RangeBytes(nothing), RangeBytes(nothing), &mut []).unwrap_err(),
+        partition_point(nothing, Test::Below, b"a").unwrap_err(),
+        first_partition_including_key(nothing, b"a").unwrap_err(),
+        first_partition_including_or_after_key(nothing, b"a").unwrap_err(),
+        last_partition_including_key(nothing, b"a").unwrap_err(),
+        partitions_covering_range(nothing, nothing).unwrap_err(),
+        table_idx_covering_range(nothing, 0, nothing).unwrap_err(),
+        overlaps_range(nothing, 0, nothing).unwrap_err(),
+        compacted_intersection(nothing, 0, 0, nothing).unwrap_err(),
+        calculate_view_range(nothing, 0, 0, nothing).unwrap_err(),
+        intersects_range(nothing, 0, 0, Unbounded, nothing).unwrap_err(),
+        visible_fraction(nothing, 0, 0).unwrap_err(),
+        estimate_visible_size(nothing, 0, 0).unwrap_err(),
+        estimate_run_visible_size(nothing, 0).unwrap_err(),
+        sample_anchors(1, 0, nothing, nothing, &mut []).unwrap_err(),
+        select_boundaries(1, 0, nothing, &mut []).unwrap_err(),
+        plan_subcompaction_ranges(1, nothing, nothing, &mut []).unwrap_err(),
+        from_compaction(nothing, &mut []).unwrap_err(),
+        subtract_from(nothing, nothing, &mut []).unwrap_err(),
     ];
     assert!(stops.iter().all(|stop| stop.to_string() == WORDS[0]));
 }

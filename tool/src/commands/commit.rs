@@ -5,7 +5,7 @@ use crate::failure::{Failure, Report};
 use crate::input::{Input, Inputs};
 use crate::kind::Kind;
 use crate::output::{self, Answer};
-use bilqarush::{
+use bilqarush::typed::{
     commit_to_vec, explain_commit, list_to_string, ImageBytes, JobBytes, Refusal, Stop, IDS_LEN,
 };
 use std::ffi::OsStr;

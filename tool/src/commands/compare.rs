@@ -4,7 +4,7 @@ use crate::args::Args;
 use crate::failure::{long_key, Failure, Report};
 use crate::input;
 use crate::output::Answer;
-use bilqarush::compare;
+use bilqarush::typed::compare;
 use std::cmp::Ordering;
 
 pub const COMMAND: Command = Command {

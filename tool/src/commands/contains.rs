@@ -4,7 +4,7 @@ use crate::args::Args;
 use crate::failure::{long_key, refused, Failure};
 use crate::input;
 use crate::output::Answer;
-use bilqarush::{contains, RangeBytes};
+use bilqarush::typed::{contains, RangeBytes};
 
 pub const COMMAND: Command = Command {
     name: "contains",

@@ -7,7 +7,7 @@ use crate::failure::{refused, Failure};
 use crate::input::{Input, Inputs};
 use crate::kind::Kind;
 use crate::output::{self, Answer};
-use bilqarush::{Image, Job};
+use bilqarush::typed::{Image, Job};
 
 pub const COMMAND: Command = Command {
     name: "draw",

@@ -5,7 +5,7 @@ use crate::failure::{refused, Failure};
 use crate::input::Inputs;
 use crate::kind::Kind;
 use crate::output::Answer;
-use bilqarush::{from_compaction_to_plan, JobBytes};
+use bilqarush::typed::{from_compaction_to_plan, JobBytes};
 
 pub const COMMAND: Command = Command {
     name: "durable",

@@ -4,7 +4,7 @@ use super::{Command, TEXT};
 use crate::args::Args;
 use crate::failure::Failure;
 use crate::output::Answer;
-use bilqarush::{compacted_effective_range, ImageBytes};
+use bilqarush::typed::{compacted_effective_range, ImageBytes};
 
 pub const COMMAND: Command = Command {
     name: "effective",

@@ -5,7 +5,7 @@ use crate::failure::{Failure, Report};
 use crate::input::Inputs;
 use crate::kind::Kind;
 use crate::output::Answer;
-use bilqarush::{explain_commit, ImageBytes, JobBytes};
+use bilqarush::typed::{explain_commit, ImageBytes, JobBytes};
 
 pub const COMMAND: Command = Command {
     name: "explain",

@@ -5,7 +5,7 @@ use crate::failure::{refused, Failure};
 use crate::input::Inputs;
 use crate::kind::Kind;
 use crate::output::Answer;
-use bilqarush::{list_to_string, ImageBytes};
+use bilqarush::typed::{list_to_string, ImageBytes};
 
 pub const COMMAND: Command = Command {
     name: "list",

@@ -3,7 +3,7 @@ use crate::args::Args;
 use crate::failure::{long_key, refused, Failure};
 use crate::input::{Input, Inputs};
 use crate::kind::Kind;
-use bilqarush::{Image, Stop};
+use bilqarush::typed::{Image, Stop};
 
 /// An image and the places after it. The first word is its file, unless it is a number and there are fewer than three.
 pub fn image_and_places(args: &Args) -> Result<(Input, Vec<usize>), Failure> {

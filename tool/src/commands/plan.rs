@@ -5,7 +5,7 @@ use crate::failure::{Failure, Report};
 use crate::input::Inputs;
 use crate::kind::Kind;
 use crate::output::{self, Answer};
-use bilqarush::{
+use bilqarush::typed::{
     explain_plan, plan_subcompaction_ranges_to_plan, ImageBytes, IndexesBytes, Refusal, Stop,
 };
 

@@ -4,7 +4,7 @@ use crate::args::Args;
 use crate::failure::{long_key, refused, Failure, Report};
 use crate::input::{self, Input};
 use crate::output::Answer;
-use bilqarush::{from_prefix_and_subrange_to_range, from_prefix_to_range, RangeBytes};
+use bilqarush::typed::{from_prefix_and_subrange_to_range, from_prefix_to_range, RangeBytes};
 
 pub const COMMAND: Command = Command {
     name: "prefix",

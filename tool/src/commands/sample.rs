@@ -5,7 +5,7 @@ use crate::failure::{refused, Failure};
 use crate::input::{Input, Inputs};
 use crate::kind::Kind;
 use crate::output::{self, Answer};
-use bilqarush::{sample_anchors_to_anchors, IndexBytes, Range, RangeBytes, Stop};
+use bilqarush::typed::{sample_anchors_to_anchors, IndexBytes, Range, RangeBytes, Stop};
 
 pub const COMMAND: Command = Command {
     name: "sample",

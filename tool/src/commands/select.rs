@@ -6,7 +6,7 @@ use crate::failure::{refused, Failure};
 use crate::input::Inputs;
 use crate::kind::Kind;
 use crate::output::{self, Answer};
-use bilqarush::{select_boundaries_to_plan, AnchorsBytes, Stop};
+use bilqarush::typed::{select_boundaries_to_plan, AnchorsBytes, Stop};
 
 pub const COMMAND: Command = Command {
     name: "select",

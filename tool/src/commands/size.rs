@@ -5,7 +5,7 @@ use crate::args::Args;
 use crate::failure::{refused, Failure};
 use crate::input::Input;
 use crate::output::Answer;
-use bilqarush::{
+use bilqarush::typed::{
     estimate_run_visible_size, estimate_visible_size, visible_fraction, Image, ImageBytes, Stop,
     VisibleFraction,
 };
@@ -38,7 +38,7 @@ fn run(args: &Args) -> Result<Answer, Failure> {
 }
 
 fn all(image: &Input) -> Result<Answer, Stop> {
-    bilqarush::check_image(ImageBytes(&image.bytes))?;
+    bilqarush::typed::check_image(ImageBytes(&image.bytes))?;
     let runs = Image::decode(&image.bytes)?.runs;
     let lines = runs.iter().enumerate().map(|(place, run)| {
         let size = estimate_run_visible_size(ImageBytes(&image.bytes), place)?;

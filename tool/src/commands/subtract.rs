@@ -4,7 +4,7 @@ use crate::args::Args;
 use crate::failure::{refused, Failure};
 use crate::input;
 use crate::output::Answer;
-use bilqarush::{subtract_from_to_plan, RangeBytes, Stop};
+use bilqarush::typed::{subtract_from_to_plan, RangeBytes, Stop};
 
 pub const COMMAND: Command = Command {
     name: "subtract",

@@ -1,5 +1,5 @@
 //! The axis: the keys that occur, what they are called, and what of it a range covers.
-use bilqarush::Range;
+use bilqarush::typed::Range;
 use std::collections::BTreeSet;
 use std::ops::{Bound, RangeInclusive};
 

@@ -1,6 +1,6 @@
 //! What the proved calls say of the images and of the job.
 use super::Picture;
-use bilqarush::{
+use bilqarush::typed::{
     check_image, compacted_effective_range, from_compaction_to_plan, Image, ImageBytes, Job,
     JobBytes, Range, Stop, Table, TableId,
 };

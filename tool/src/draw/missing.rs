@@ -1,7 +1,7 @@
 //! Which keys a run showed in the first scene, shows no longer, and are not durable.
 use super::axis::Axis;
 use super::facts::{Progress, ShownRun};
-use bilqarush::Range;
+use bilqarush::typed::Range;
 
 /// Sentences on a later scene. After commits of the job, or of earlier records of it, nothing is missing.
 pub(super) fn missing(

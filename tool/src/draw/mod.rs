@@ -2,7 +2,7 @@
 //!
 //! All scenes share one axis. What a bar covers is the effective range that the proved call answers; what is durable of a
 //! job is the proved call's answer too. This module only places them, and is not proved: tests hold the bars to `contains`.
-use bilqarush::{Image, Job, Stop};
+use bilqarush::typed::{Image, Job, Stop};
 
 mod axis;
 mod facts;

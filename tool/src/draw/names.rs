@@ -1,6 +1,6 @@
 //! What tables are called in a picture, and which of them are new.
 use super::facts::Facts;
-use bilqarush::TableId;
+use bilqarush::typed::TableId;
 use std::collections::BTreeMap;
 
 /// Most digits of an id that stands in a bar.

@@ -4,7 +4,7 @@ use super::facts::{Facts, Progress, Shown, ShownRun};
 use super::missing::missing;
 use super::names::Tables;
 use super::{Picture, Scene};
-use bilqarush::{Part, Range, Stop, TableId};
+use bilqarush::typed::{Part, Range, Stop, TableId};
 use std::ops::Bound;
 
 /// What the rows of a job mean.

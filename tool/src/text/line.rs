@@ -1,7 +1,7 @@
 //! A line of the text form, read word by word.
 use super::{id, key, range, words};
 use bilqarush::raw::BILQARUSH_MAX_KEY;
-use bilqarush::Range;
+use bilqarush::typed::Range;
 use std::fmt;
 
 /// A text that is no text form: the line, and what was expected there.

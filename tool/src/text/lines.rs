@@ -1,6 +1,6 @@
 //! The lines of a text.
 use super::line::{Line, TextError};
-use bilqarush::Item;
+use bilqarush::typed::Item;
 use std::collections::VecDeque;
 
 /// The lines that are not blank, taken one after the other.

@@ -1,6 +1,6 @@
 //! Ranges in the text form: two words, the brackets as a listing has them.
 use super::key;
-use bilqarush::Range;
+use bilqarush::typed::Range;
 use std::ops::Bound;
 
 /// A range as errors name it.

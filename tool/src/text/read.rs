@@ -2,7 +2,7 @@
 use super::line::{Line, TextError};
 use super::lines::{Lines, Read};
 use bilqarush::raw::*;
-use bilqarush::{
+use bilqarush::typed::{
     Anchor, Anchors, Block, Image, Index, Indexes, Item, Job, Part, Plan, Range, Run, Table,
     TableId, View, ViewId,
 };

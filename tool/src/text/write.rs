@@ -1,6 +1,6 @@
 //! Values in their text form.
 use super::{id, key, range};
-use bilqarush::{Anchors, Image, Index, Indexes, Job, Plan, Range, Table};
+use bilqarush::typed::{Anchors, Image, Index, Indexes, Job, Plan, Range, Table};
 
 /// The numbers of a table are left out if all are 0, as a person does who has none.
 fn table(table: &Table) -> String {

@@ -1,5 +1,5 @@
 //! Random values of all kinds, also such that the library refuses.
-use bilqarush::{
+use bilqarush::typed::{
     Anchor, Anchors, Block, Image, Index, Job, Part, Plan, Range, Run, Table, TableId, View, ViewId,
 };
 use std::ops::Bound;

@@ -11,8 +11,9 @@ pub(crate) use job::all_of_job;
 
 use crate::cut::{passes, span};
 use crate::refusal::{Buffer, Item, Refusal};
+use crate::typed::Range;
 use crate::values::{Anchors, Image, Index};
-use crate::{Range, Stop};
+use crate::Stop;
 use image::{sizes_fit, views_ascend, visible_meet, visible_pass};
 use places::{key_len, refuse, FAILS};
 

@@ -1,7 +1,8 @@
 //! Where the records of an image or a job begin, by the lengths of those before them.
 use crate::refusal::{Buffer, Item, Place, Refusal};
+use crate::typed::Range;
 use crate::values::*;
-use crate::{Range, Stop};
+use crate::Stop;
 use alloc::vec::Vec;
 use core::ops::Bound;
 

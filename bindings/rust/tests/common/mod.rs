@@ -1,9 +1,6 @@
 //! Images, jobs, indexes and anchors, field after field as document 01 lays them out, and buffers that are lent to a call.
 #![allow(dead_code)]
-pub mod agree;
-pub mod random;
-
-use bilqarush::{Range, Stop};
+use bilqarush::{range_image, Stop};
 use std::ops::Bound;
 
 /// What a lent buffer is filled with.
@@ -18,7 +15,7 @@ pub fn excluded(key: &str) -> Bound<&[u8]> {
 }
 
 pub fn range(start: Bound<&[u8]>, end: Bound<&[u8]>) -> Vec<u8> {
-    Range { start, end }.to_bytes().unwrap()
+    range_image(start, end).unwrap()
 }
 
 /// A key of one byte, repeated.
@@ -154,20 +151,6 @@ pub fn lend(
 ) -> Result<Vec<u8>, u8> {
     let mut out = vec![UNWRITTEN; room];
     let answer = call(&mut out).map(|front| front.to_vec());
-    untouched(&out, answer)
-}
-
-/// The same of a call that writes text.
-pub fn lend_text(
-    room: usize,
-    call: impl FnOnce(&mut [u8]) -> Result<&str, Stop>,
-) -> Result<Vec<u8>, u8> {
-    let mut out = vec![UNWRITTEN; room];
-    let answer = call(&mut out).map(|front| front.as_bytes().to_vec());
-    untouched(&out, answer)
-}
-
-fn untouched(out: &[u8], answer: Result<Vec<u8>, Stop>) -> Result<Vec<u8>, u8> {
     let length = answer.as_ref().map_or(0, Vec::len);
     assert!(out[length..].iter().all(|&byte| byte == UNWRITTEN));
     answer.map_err(Stop::number)

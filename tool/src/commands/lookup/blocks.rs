@@ -6,7 +6,7 @@ use crate::input::Inputs;
 use crate::kind::Kind;
 use crate::output::Answer;
 use crate::text::key;
-use bilqarush::{partitions_covering_range, Index, IndexBytes, RangeBytes, Stop};
+use bilqarush::typed::{partitions_covering_range, Index, IndexBytes, RangeBytes, Stop};
 
 pub const COMMAND: Command = Command {
     name: "lookup blocks",

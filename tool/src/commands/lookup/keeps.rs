@@ -3,7 +3,7 @@ use super::{Command, InView, TEXT};
 use crate::args::Args;
 use crate::failure::Failure;
 use crate::output::Answer;
-use bilqarush::compacted_intersection;
+use bilqarush::typed::compacted_intersection;
 
 pub const COMMAND: Command = Command {
     name: "lookup keeps",

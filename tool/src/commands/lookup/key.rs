@@ -5,7 +5,7 @@ use crate::failure::{long_key, refused, Failure};
 use crate::input::{self, Inputs};
 use crate::kind::Kind;
 use crate::output::Answer;
-use bilqarush::{
+use bilqarush::typed::{
     first_partition_including_key, first_partition_including_or_after_key,
     last_partition_including_key, partition_point, IndexBytes, Stop, Test,
 };

@@ -5,7 +5,7 @@ use crate::failure::Failure;
 use crate::input;
 use crate::output::Answer;
 use crate::text::range;
-use bilqarush::intersects_range;
+use bilqarush::typed::intersects_range;
 
 pub const COMMAND: Command = Command {
     name: "lookup meets",

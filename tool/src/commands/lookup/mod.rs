@@ -5,7 +5,7 @@ use crate::args::Args;
 use crate::failure::Failure;
 use crate::input::{Input, Inputs};
 use crate::kind::Kind;
-use bilqarush::{ImageBytes, RangeBytes, Stop};
+use bilqarush::typed::{ImageBytes, RangeBytes, Stop};
 
 pub mod blocks;
 pub mod keeps;

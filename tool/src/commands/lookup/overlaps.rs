@@ -3,7 +3,7 @@ use super::{Command, InRun, TEXT};
 use crate::args::Args;
 use crate::failure::Failure;
 use crate::output::Answer;
-use bilqarush::overlaps_range;
+use bilqarush::typed::overlaps_range;
 
 pub const COMMAND: Command = Command {
     name: "lookup overlaps",

@@ -3,7 +3,7 @@ use super::{Command, InView, TEXT};
 use crate::args::Args;
 use crate::failure::Failure;
 use crate::output::Answer;
-use bilqarush::calculate_view_range;
+use bilqarush::typed::calculate_view_range;
 
 pub const COMMAND: Command = Command {
     name: "lookup reads",

@@ -4,7 +4,9 @@ use crate::args::Args;
 use crate::failure::Failure;
 use crate::output::Answer;
 use crate::text::{id, range};
-use bilqarush::{compacted_effective_range, table_idx_covering_range, Image, ImageBytes, Stop};
+use bilqarush::typed::{
+    compacted_effective_range, table_idx_covering_range, Image, ImageBytes, Stop,
+};
 use std::ops;
 
 pub const COMMAND: Command = Command {

@@ -2,7 +2,7 @@
 use super::samples::{table, whole};
 use super::svg;
 use super::{Picture, Scene};
-use bilqarush::{Image, Run};
+use bilqarush::typed::{Image, Run};
 
 /// The share of light of a colour `#rrggbb`, as WCAG 2 counts it.
 fn light(colour: &str) -> f64 {

@@ -1,7 +1,7 @@
 //! The pictures of the program `demo`, each held to a text in full.
 use super::samples::{before, committed, completed, further, half_way};
 use super::{text, with_job, Picture, Scene};
-use bilqarush::Image;
+use bilqarush::typed::Image;
 
 fn images() -> [Image; 4] {
     let before = before();

@@ -1,7 +1,7 @@
 //! Pictures of single images at their edges.
 use super::samples::{table, whole};
 use super::{drawn, of_image, refused, rows, svg};
-use bilqarush::{Image, Range, Run, Stop, Table, TableId, View};
+use bilqarush::typed::{Image, Range, Run, Stop, Table, TableId, View};
 
 fn one_run(views: impl IntoIterator<Item = View>) -> Image {
     Image::new([Run::new(7, views)])

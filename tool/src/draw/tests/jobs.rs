@@ -1,7 +1,7 @@
 //! Pictures of jobs.
 use super::samples::{before, committed, half_way, table, whole};
 use super::{refused, rows, text, with_job, Picture};
-use bilqarush::{Image, Job, Part, Range, Run, Stop};
+use bilqarush::typed::{Image, Job, Part, Range, Run, Stop};
 
 /// The rows of a job that is drawn alone.
 fn job_rows(job: &Job) -> Vec<String> {

@@ -1,6 +1,6 @@
 //! Pictures, held to what they should show.
 use super::{svg, text, Picture, Scene};
-use bilqarush::{Image, Job, Stop};
+use bilqarush::typed::{Image, Job, Stop};
 
 mod colours;
 mod demo;

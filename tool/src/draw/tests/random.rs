@@ -2,7 +2,7 @@
 use super::reading::{blocks, Bar};
 use super::samples::{committed, table, whole, Random};
 use super::{drawn, text, with_job};
-use bilqarush::{
+use bilqarush::typed::{
     check_image, compacted_effective_range, contains, from_compaction_to_plan, Image, ImageBytes,
     Job, JobBytes, Part, Range, RangeBytes, Run, Table, TableId, View,
 };

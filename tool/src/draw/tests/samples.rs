@@ -1,5 +1,5 @@
 //! Images and jobs that are drawn, and a source of random ones.
-use bilqarush::{
+use bilqarush::typed::{
     commit_to_vec, Image, ImageBytes, Job, JobBytes, Part, Range, Run, Stop, Table, TableId, View,
     ViewId,
 };

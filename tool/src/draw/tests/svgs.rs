@@ -2,7 +2,7 @@
 use super::random::{bound_keys, random_image, shows};
 use super::samples::{before, committed, half_way, table, whole, Random};
 use super::{of_image, svg, with_job};
-use bilqarush::{Image, Run, View};
+use bilqarush::typed::{Image, Run, View};
 
 /// Each tag is closed in its turn, and `&` only begins a name that XML has.
 fn well_formed(svg: &str) {

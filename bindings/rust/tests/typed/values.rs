@@ -1,9 +1,7 @@
 //! Values, to and from bytes, beside the proved calls on random and damaged inputs.
-mod common;
-
-use bilqarush::*;
-use common::agree;
-use common::random::Chance;
+use crate::common::agree;
+use crate::common::random::Chance;
+use bilqarush::typed::*;
 use std::ops::Bound;
 
 const ROUNDS: u64 = 4000;
@@ -195,7 +193,7 @@ fn ranges_hold_the_same_keys() {
         let Ok(bytes) = range.to_bytes() else {
             continue;
         };
-        match bilqarush::contains(RangeBytes(&bytes), &key) {
+        match bilqarush::typed::contains(RangeBytes(&bytes), &key) {
             Ok(is) => assert_eq!(RangeBounds::<[u8]>::contains(&range, &key[..]), is),
             Err(stop) => assert!(stop == Stop::EmptyRange || key.len() > 1024),
         }

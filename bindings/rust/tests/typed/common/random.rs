@@ -1,5 +1,5 @@
 //! Random values whose keys meet often, and damaged copies of bytes.
-use bilqarush::*;
+use bilqarush::typed::*;
 use std::ops::Bound;
 
 /// Numbers from a seed, the same at each run.

@@ -1,5 +1,5 @@
 //! The second implementation, of values and of places, held to the proved calls on some bytes.
-use bilqarush::*;
+use bilqarush::typed::*;
 
 /// What is asked of each kind of bytes: the proved call's stop, what `from_bytes` and `to_bytes` say, and what `explain` says.
 fn held<T>(

@@ -1,7 +1,5 @@
 //! Where a refusal lies: for each stop some inputs, with the place in words.
-mod common;
-
-use bilqarush::*;
+use bilqarush::typed::*;
 use std::ops::Bound;
 
 /// The place of a refusal in words, after its number.
