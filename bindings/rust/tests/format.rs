@@ -223,9 +223,7 @@ fn stops_of_each_call() {
         .skip(1);
     let mut expected: BTreeMap<String, BTreeSet<u8>> = fields
         .map(|field| {
-            // A law of a call whose name is a definition's too ends in _lem.
-            let name = field.split_once(" :").unwrap().0;
-            let name = name.strip_suffix("_lem").unwrap_or(name).to_string();
+            let name = field.split_once(" :").unwrap().0.to_string();
             let list = field.split_once("Says _ ").unwrap().1;
             (name, lists[list.split_once(' ').unwrap().0].clone())
         })

@@ -84,49 +84,49 @@ each_stop_is_listed =
     record {
       compare = λ a b.
           and-then (key_given a) (key_given_lem a refl) (λ j. and-then (key_given b) (key_given_lem b refl) (λ k. answers _));
-      cmp_bound_lem = λ ka a kb b start.
+      cmp_bound = λ ka a kb b start.
           and-then (bound_given ka a) (bound_given_lem three_listed ka a) (λ x.
           and-then (bound_given kb b) (bound_given_lem three_listed kb b) (λ y. answers _));
-      non_empty_lem = λ l. and-then (whole read_range l) (whole_range three_listed l) (λ r. answers _);
+      non_empty = λ l. and-then (whole read_range l) (whole_range three_listed l) (λ r. answers _);
       contains = λ l key.
           and-then (whole read_range l) (whole_range three_listed l) (λ r.
           and-then (key_given key) (key_given_lem key refl) (λ k. checks 4 (non_empty r) refl (λ _. answers _)));
-      as_point_lem = λ l. and-then (range_given l) (range_given_lem three_listed l refl) (λ r. answers _);
+      as_point = λ l. and-then (range_given l) (range_given_lem three_listed l refl) (λ r. answers _);
       intersect = intersect_stops_lem;
       intersect_start_key = λ a b. and-then (intersect_outcome a b) (intersect_stops_lem a b) (λ j. answers _);
       intersect_end_key = λ a b. and-then (intersect_outcome a b) (intersect_stops_lem a b) (λ j. answers _);
       union = λ a b. and-then (ranges_given a b) (ranges_given_lem three_listed a b refl) (λ p. answers _);
-      from_prefix_lem = λ prefix room.
+      from_prefix = λ prefix room.
           and-then (key_given prefix) (key_given_lem prefix refl) (λ p. written room (write_range (from_prefix p)) refl);
-      from_prefix_and_subrange_lem = λ prefix subrange room.
+      from_prefix_and_subrange = λ prefix subrange room.
           and-then (key_given prefix) (key_given_lem prefix refl) (λ p.
           and-then (whole read_range subrange) (whole_range three_listed subrange) (λ r. joined_stops room p r));
       check_image = λ l. and-then (image_given l) (image_given_lem seven_listed l) (λ i. answers tt);
       compacted_effective_range = λ l run view.
           and-then (view_given l run view) (view_given_lem seven_listed l run view refl) (λ v. answers _);
       list = λ l room. and-then (image_given l) (image_given_lem seven_listed l) (λ i. written room (listing i) refl);
-      partition_point_lem = λ l test key. and-then (index_and_key l key) (index_and_key_lem l key) (λ a. answers _);
-      first_partition_including_key_lem = λ l key. and-then (index_and_key l key) (index_and_key_lem l key) (λ a. answers _);
-      first_partition_including_or_after_key_lem = λ l key. and-then (index_and_key l key) (index_and_key_lem l key) (λ a. answers _);
-      last_partition_including_key_lem = λ l key. and-then (index_and_key l key) (index_and_key_lem l key) (λ a. answers _);
-      partitions_covering_range_lem = λ l q. and-then (index_and_range l q) (index_and_range_lem l q) (λ a. answers _);
-      table_idx_covering_range_lem = table_idx_stops;
-      overlaps_range_lem = overlaps_stops;
-      compacted_intersection_lem = compacted_intersection_stops;
-      calculate_view_range_lem = view_range_stops;
-      intersects_range_lem = intersects_stops;
-      visible_fraction_lem = λ l run view.
+      partition_point = λ l test key. and-then (index_and_key l key) (index_and_key_lem l key) (λ a. answers _);
+      first_partition_including_key = λ l key. and-then (index_and_key l key) (index_and_key_lem l key) (λ a. answers _);
+      first_partition_including_or_after_key = λ l key. and-then (index_and_key l key) (index_and_key_lem l key) (λ a. answers _);
+      last_partition_including_key = λ l key. and-then (index_and_key l key) (index_and_key_lem l key) (λ a. answers _);
+      partitions_covering_range = λ l q. and-then (index_and_range l q) (index_and_range_lem l q) (λ a. answers _);
+      table_idx_covering_range = table_idx_stops;
+      overlaps_range = overlaps_stops;
+      compacted_intersection = compacted_intersection_stops;
+      calculate_view_range = view_range_stops;
+      intersects_range = intersects_stops;
+      visible_fraction = λ l run view.
           and-then (view_given l run view) (view_given_lem seven_listed l run view refl) (λ v. answers _);
-      estimate_visible_size_lem = λ l run view.
+      estimate_visible_size = λ l run view.
           and-then (view_given l run view) (view_given_lem seven_listed l run view refl) (λ v. answers _);
-      estimate_run_visible_size_lem = λ l run.
+      estimate_run_visible_size = λ l run.
           and-then (image_given l) (image_given_lem seven_listed l) (λ i.
           and-then (views_at i run) (views_at_lem i run refl) (λ vs. answers _));
-      sample_anchors_lem = sample_anchors_stops_lem;
-      select_boundaries_lem = select_boundaries_stops_lem;
-      plan_subcompaction_ranges_lem = plan_stops;
-      from_compaction_lem = from_compaction_stops_lem;
-      subtract_from_lem = subtract_from_stops_lem;
+      sample_anchors = sample_anchors_stops_lem;
+      select_boundaries = select_boundaries_stops_lem;
+      plan_subcompaction_ranges = plan_stops;
+      from_compaction = from_compaction_stops_lem;
+      subtract_from = subtract_from_stops_lem;
       commit = commit_stops_lem;
     }
 
@@ -144,36 +144,36 @@ no_stop_is_zero =
     let each = each_stop_is_listed in
     record {
       compare = λ a b. unlisted 0 (each.compare a b) refl;
-      cmp_bound_lem = λ ka a kb b start. unlisted 0 (each.cmp_bound_lem ka a kb b start) refl;
-      non_empty_lem = λ l. unlisted 0 (each.non_empty_lem l) refl;
+      cmp_bound = λ ka a kb b start. unlisted 0 (each.cmp_bound ka a kb b start) refl;
+      non_empty = λ l. unlisted 0 (each.non_empty l) refl;
       contains = λ l key. unlisted 0 (each.contains l key) refl;
-      as_point_lem = λ l. unlisted 0 (each.as_point_lem l) refl;
+      as_point = λ l. unlisted 0 (each.as_point l) refl;
       intersect = λ a b. unlisted 0 (each.intersect a b) refl;
       intersect_start_key = λ a b. unlisted 0 (each.intersect_start_key a b) refl;
       intersect_end_key = λ a b. unlisted 0 (each.intersect_end_key a b) refl;
       union = λ a b. unlisted 0 (each.union a b) refl;
-      from_prefix_lem = λ prefix room. unlisted 0 (each.from_prefix_lem prefix room) refl;
-      from_prefix_and_subrange_lem = λ prefix subrange room. unlisted 0 (each.from_prefix_and_subrange_lem prefix subrange room) refl;
+      from_prefix = λ prefix room. unlisted 0 (each.from_prefix prefix room) refl;
+      from_prefix_and_subrange = λ prefix subrange room. unlisted 0 (each.from_prefix_and_subrange prefix subrange room) refl;
       check_image = λ l. unlisted 0 (each.check_image l) refl;
       compacted_effective_range = λ l run view. unlisted 0 (each.compacted_effective_range l run view) refl;
       list = λ l room. unlisted 0 (each.list l room) refl;
-      partition_point_lem = λ l test key. unlisted 0 (each.partition_point_lem l test key) refl;
-      first_partition_including_key_lem = λ l key. unlisted 0 (each.first_partition_including_key_lem l key) refl;
-      first_partition_including_or_after_key_lem = λ l key. unlisted 0 (each.first_partition_including_or_after_key_lem l key) refl;
-      last_partition_including_key_lem = λ l key. unlisted 0 (each.last_partition_including_key_lem l key) refl;
-      partitions_covering_range_lem = λ l q. unlisted 0 (each.partitions_covering_range_lem l q) refl;
-      table_idx_covering_range_lem = λ l run q. unlisted 0 (each.table_idx_covering_range_lem l run q) refl;
-      overlaps_range_lem = λ l run q. unlisted 0 (each.overlaps_range_lem l run q) refl;
-      compacted_intersection_lem = λ l run view q. unlisted 0 (each.compacted_intersection_lem l run view q) refl;
-      calculate_view_range_lem = λ l run view q. unlisted 0 (each.calculate_view_range_lem l run view q) refl;
-      intersects_range_lem = λ l run view kind end q. unlisted 0 (each.intersects_range_lem l run view kind end q) refl;
-      visible_fraction_lem = λ l run view. unlisted 0 (each.visible_fraction_lem l run view) refl;
-      estimate_visible_size_lem = λ l run view. unlisted 0 (each.estimate_visible_size_lem l run view) refl;
-      estimate_run_visible_size_lem = λ l run. unlisted 0 (each.estimate_run_visible_size_lem l run) refl;
-      sample_anchors_lem = λ most data_end l q room. unlisted 0 (each.sample_anchors_lem most data_end l q room) refl;
-      select_boundaries_lem = λ parts least l room. unlisted 0 (each.select_boundaries_lem parts least l room) refl;
-      plan_subcompaction_ranges_lem = λ parts l m room. unlisted 0 (each.plan_subcompaction_ranges_lem parts l m room) refl;
-      from_compaction_lem = λ l room. unlisted 0 (each.from_compaction_lem l room) refl;
-      subtract_from_lem = λ l q room. unlisted 0 (each.subtract_from_lem l q room) refl;
+      partition_point = λ l test key. unlisted 0 (each.partition_point l test key) refl;
+      first_partition_including_key = λ l key. unlisted 0 (each.first_partition_including_key l key) refl;
+      first_partition_including_or_after_key = λ l key. unlisted 0 (each.first_partition_including_or_after_key l key) refl;
+      last_partition_including_key = λ l key. unlisted 0 (each.last_partition_including_key l key) refl;
+      partitions_covering_range = λ l q. unlisted 0 (each.partitions_covering_range l q) refl;
+      table_idx_covering_range = λ l run q. unlisted 0 (each.table_idx_covering_range l run q) refl;
+      overlaps_range = λ l run q. unlisted 0 (each.overlaps_range l run q) refl;
+      compacted_intersection = λ l run view q. unlisted 0 (each.compacted_intersection l run view q) refl;
+      calculate_view_range = λ l run view q. unlisted 0 (each.calculate_view_range l run view q) refl;
+      intersects_range = λ l run view kind end q. unlisted 0 (each.intersects_range l run view kind end q) refl;
+      visible_fraction = λ l run view. unlisted 0 (each.visible_fraction l run view) refl;
+      estimate_visible_size = λ l run view. unlisted 0 (each.estimate_visible_size l run view) refl;
+      estimate_run_visible_size = λ l run. unlisted 0 (each.estimate_run_visible_size l run) refl;
+      sample_anchors = λ most data_end l q room. unlisted 0 (each.sample_anchors most data_end l q room) refl;
+      select_boundaries = λ parts least l room. unlisted 0 (each.select_boundaries parts least l room) refl;
+      plan_subcompaction_ranges = λ parts l m room. unlisted 0 (each.plan_subcompaction_ranges parts l m room) refl;
+      from_compaction = λ l room. unlisted 0 (each.from_compaction l room) refl;
+      subtract_from = λ l q room. unlisted 0 (each.subtract_from l q room) refl;
       commit = λ given job' ids room. unlisted 0 (each.commit given job' ids room) refl;
     }

@@ -111,16 +111,16 @@ commit_stops = 1 ∷ 2 ∷ 3 ∷ 4 ∷ 5 ∷ 6 ∷ 7 ∷ 8 ∷ 9 ∷ 10 ∷ 11 �
 -- ---- what is said of each call, its list and its outcome for each input
 pub record OfEachCall (Says : (A : Type 0) → List ℕ → Outcome A → Type 0) : Type 0 where
   pub compare : (a b : List ℕ) → Says _ compare_stops (compare_outcome a b)
-  pub cmp_bound_lem : (ka : ℕ) (a : List ℕ) (kb : ℕ) (b : List ℕ) (start : Bool) → Says _ cmp_bound_stops (cmp_bound_outcome ka a kb b start)
-  pub non_empty_lem : (range : List ℕ) → Says _ non_empty_stops (non_empty_outcome range)
+  pub cmp_bound : (ka : ℕ) (a : List ℕ) (kb : ℕ) (b : List ℕ) (start : Bool) → Says _ cmp_bound_stops (cmp_bound_outcome ka a kb b start)
+  pub non_empty : (range : List ℕ) → Says _ non_empty_stops (non_empty_outcome range)
   pub contains : (range key : List ℕ) → Says _ contains_stops (contains_outcome range key)
-  pub as_point_lem : (range : List ℕ) → Says _ as_point_stops (as_point_outcome range)
+  pub as_point : (range : List ℕ) → Says _ as_point_stops (as_point_outcome range)
   pub intersect : (a b : List ℕ) → Says _ intersect_stops (intersect_outcome a b)
   pub intersect_start_key : (a b : List ℕ) → Says _ intersect_stops (intersect_start_key_outcome a b)
   pub intersect_end_key : (a b : List ℕ) → Says _ intersect_stops (intersect_end_key_outcome a b)
   pub union : (a b : List ℕ) → Says _ union_stops (union_outcome a b)
-  pub from_prefix_lem : (prefix : List ℕ) (room : ℕ) → Says _ from_prefix_stops (from_prefix_outcome prefix room)
-  pub from_prefix_and_subrange_lem :
+  pub from_prefix : (prefix : List ℕ) (room : ℕ) → Says _ from_prefix_stops (from_prefix_outcome prefix room)
+  pub from_prefix_and_subrange :
       (prefix subrange : List ℕ) (room : ℕ)
       → Says _ from_prefix_and_subrange_stops (from_prefix_and_subrange_outcome prefix subrange room)
   pub check_image : (image : List ℕ) → Says _ check_image_stops (check_image_outcome image)
@@ -128,38 +128,38 @@ pub record OfEachCall (Says : (A : Type 0) → List ℕ → Outcome A → Type 0
       (image : List ℕ) (run view : ℕ)
       → Says _ compacted_effective_range_stops (compacted_effective_range_outcome image run view)
   pub list : (image : List ℕ) (room : ℕ) → Says _ list_stops (list_outcome image room)
-  pub partition_point_lem : (index : List ℕ) (test : Test) (key : List ℕ) → Says _ key_lookup_stops (partition_point_outcome index test key)
-  pub first_partition_including_key_lem : (index key : List ℕ) → Says _ key_lookup_stops (first_partition_including_key_outcome index key)
-  pub first_partition_including_or_after_key_lem : (index key : List ℕ) → Says _ key_lookup_stops (first_partition_including_or_after_key_outcome index key)
-  pub last_partition_including_key_lem : (index key : List ℕ) → Says _ key_lookup_stops (last_partition_including_key_outcome index key)
-  pub partitions_covering_range_lem : (index range : List ℕ) → Says _ partitions_covering_range_stops (partitions_covering_range_outcome index range)
-  pub table_idx_covering_range_lem :
+  pub partition_point : (index : List ℕ) (test : Test) (key : List ℕ) → Says _ key_lookup_stops (partition_point_outcome index test key)
+  pub first_partition_including_key : (index key : List ℕ) → Says _ key_lookup_stops (first_partition_including_key_outcome index key)
+  pub first_partition_including_or_after_key : (index key : List ℕ) → Says _ key_lookup_stops (first_partition_including_or_after_key_outcome index key)
+  pub last_partition_including_key : (index key : List ℕ) → Says _ key_lookup_stops (last_partition_including_key_outcome index key)
+  pub partitions_covering_range : (index range : List ℕ) → Says _ partitions_covering_range_stops (partitions_covering_range_outcome index range)
+  pub table_idx_covering_range :
       (image : List ℕ) (run : ℕ) (range : List ℕ)
       → Says _ range_lookup_stops (table_idx_covering_range_outcome image run range)
-  pub overlaps_range_lem : (image : List ℕ) (run : ℕ) (range : List ℕ) → Says _ range_lookup_stops (overlaps_range_outcome image run range)
-  pub compacted_intersection_lem :
+  pub overlaps_range : (image : List ℕ) (run : ℕ) (range : List ℕ) → Says _ range_lookup_stops (overlaps_range_outcome image run range)
+  pub compacted_intersection :
       (image : List ℕ) (run view : ℕ) (range : List ℕ)
       → Says _ range_lookup_stops (compacted_intersection_outcome image run view range)
-  pub calculate_view_range_lem :
+  pub calculate_view_range :
       (image : List ℕ) (run view : ℕ) (range : List ℕ)
       → Says _ range_lookup_stops (calculate_view_range_outcome image run view range)
-  pub intersects_range_lem :
+  pub intersects_range :
       (image : List ℕ) (run view kind : ℕ) (end range : List ℕ)
       → Says _ range_lookup_stops (intersects_range_outcome image run view kind end range)
-  pub visible_fraction_lem : (image : List ℕ) (run view : ℕ) → Says _ visible_size_stops (visible_fraction_outcome image run view)
-  pub estimate_visible_size_lem : (image : List ℕ) (run view : ℕ) → Says _ visible_size_stops (estimate_visible_size_outcome image run view)
-  pub estimate_run_visible_size_lem : (image : List ℕ) (run : ℕ) → Says _ visible_size_stops (estimate_run_visible_size_outcome image run)
-  pub sample_anchors_lem :
+  pub visible_fraction : (image : List ℕ) (run view : ℕ) → Says _ visible_size_stops (visible_fraction_outcome image run view)
+  pub estimate_visible_size : (image : List ℕ) (run view : ℕ) → Says _ visible_size_stops (estimate_visible_size_outcome image run view)
+  pub estimate_run_visible_size : (image : List ℕ) (run : ℕ) → Says _ visible_size_stops (estimate_run_visible_size_outcome image run)
+  pub sample_anchors :
       (most data_end : ℕ) (index range : List ℕ) (room : ℕ)
       → Says _ sample_anchors_stops (sample_anchors_outcome most data_end index range room)
-  pub select_boundaries_lem :
+  pub select_boundaries :
       (parts least : ℕ) (anchors : List ℕ) (room : ℕ)
       → Says _ select_boundaries_stops (select_boundaries_outcome parts least anchors room)
-  pub plan_subcompaction_ranges_lem :
+  pub plan_subcompaction_ranges :
       (parts : ℕ) (image indexes : List ℕ) (room : ℕ)
       → Says _ plan_subcompaction_ranges_stops (plan_subcompaction_ranges_outcome parts image indexes room)
-  pub from_compaction_lem : (job : List ℕ) (room : ℕ) → Says _ from_compaction_stops (from_compaction_outcome job room)
-  pub subtract_from_lem :
+  pub from_compaction : (job : List ℕ) (room : ℕ) → Says _ from_compaction_stops (from_compaction_outcome job room)
+  pub subtract_from :
       (interval range : List ℕ) (room : ℕ)
       → Says _ subtract_from_stops (subtract_from_outcome interval range room)
   pub commit : (image job ids : List ℕ) (room : ℕ) → Says _ commit_stops (commit_outcome image job ids room)
@@ -184,37 +184,37 @@ pub data Reached {I A : Type 0} (call : I → Outcome A) : List ℕ → Type 0 w
 
 pub record EachListedStopIsReached : Type 0 where
   pub compare : Reached (λ (a : List ℕ). compare_outcome a []) compare_stops
-  pub cmp_bound_lem : Reached (λ (x : ℕ × List ℕ). cmp_bound_outcome x.0 x.1 0 [] true) cmp_bound_stops
-  pub non_empty_lem : Reached non_empty_outcome non_empty_stops
+  pub cmp_bound : Reached (λ (x : ℕ × List ℕ). cmp_bound_outcome x.0 x.1 0 [] true) cmp_bound_stops
+  pub non_empty : Reached non_empty_outcome non_empty_stops
   pub contains : Reached (λ (range : List ℕ). contains_outcome range []) contains_stops
-  pub as_point_lem : Reached as_point_outcome as_point_stops
+  pub as_point : Reached as_point_outcome as_point_stops
   pub intersect : Reached (λ (x : List ℕ × List ℕ). intersect_outcome x.0 x.1) intersect_stops
   pub intersect_start_key : Reached (λ (x : List ℕ × List ℕ). intersect_start_key_outcome x.0 x.1) intersect_stops
   pub intersect_end_key : Reached (λ (x : List ℕ × List ℕ). intersect_end_key_outcome x.0 x.1) intersect_stops
   pub union : Reached (λ (x : List ℕ × List ℕ). union_outcome x.0 x.1) union_stops
-  pub from_prefix_lem : Reached (λ (x : List ℕ × ℕ). from_prefix_outcome x.0 x.1) from_prefix_stops
-  pub from_prefix_and_subrange_lem : Reached (λ (x : List ℕ × ℕ). from_prefix_and_subrange_outcome [] x.0 x.1) from_prefix_and_subrange_stops
+  pub from_prefix : Reached (λ (x : List ℕ × ℕ). from_prefix_outcome x.0 x.1) from_prefix_stops
+  pub from_prefix_and_subrange : Reached (λ (x : List ℕ × ℕ). from_prefix_and_subrange_outcome [] x.0 x.1) from_prefix_and_subrange_stops
   pub check_image : Reached check_image_outcome check_image_stops
   pub compacted_effective_range : Reached (λ (image : List ℕ). compacted_effective_range_outcome image 0 0) compacted_effective_range_stops
   pub list : Reached (λ (x : List ℕ × ℕ). list_outcome x.0 x.1) list_stops
-  pub partition_point_lem : Reached (λ (x : List ℕ × List ℕ). partition_point_outcome x.0 Below x.1) key_lookup_stops
-  pub first_partition_including_key_lem : Reached (λ (x : List ℕ × List ℕ). first_partition_including_key_outcome x.0 x.1) key_lookup_stops
-  pub first_partition_including_or_after_key_lem : Reached (λ (x : List ℕ × List ℕ). first_partition_including_or_after_key_outcome x.0 x.1) key_lookup_stops
-  pub last_partition_including_key_lem : Reached (λ (x : List ℕ × List ℕ). last_partition_including_key_outcome x.0 x.1) key_lookup_stops
-  pub partitions_covering_range_lem : Reached (λ (x : List ℕ × List ℕ). partitions_covering_range_outcome x.0 x.1) partitions_covering_range_stops
-  pub table_idx_covering_range_lem : Reached (λ (x : List ℕ × List ℕ). table_idx_covering_range_outcome x.0 0 x.1) range_lookup_stops
-  pub overlaps_range_lem : Reached (λ (x : List ℕ × List ℕ). overlaps_range_outcome x.0 0 x.1) range_lookup_stops
-  pub compacted_intersection_lem : Reached (λ (x : List ℕ × List ℕ). compacted_intersection_outcome x.0 0 0 x.1) range_lookup_stops
-  pub calculate_view_range_lem : Reached (λ (x : List ℕ × List ℕ). calculate_view_range_outcome x.0 0 0 x.1) range_lookup_stops
-  pub intersects_range_lem : Reached (λ (x : List ℕ × List ℕ). intersects_range_outcome x.0 0 0 0 [] x.1) range_lookup_stops
-  pub visible_fraction_lem : Reached (λ (image : List ℕ). visible_fraction_outcome image 0 0) visible_size_stops
-  pub estimate_visible_size_lem : Reached (λ (image : List ℕ). estimate_visible_size_outcome image 0 0) visible_size_stops
-  pub estimate_run_visible_size_lem : Reached (λ (image : List ℕ). estimate_run_visible_size_outcome image 0) visible_size_stops
-  pub sample_anchors_lem : Reached (λ (x : List ℕ × List ℕ). sample_anchors_outcome 1 0 x.0 x.1 0) sample_anchors_stops
-  pub select_boundaries_lem : Reached (λ (x : ℕ × List ℕ). select_boundaries_outcome x.0 0 x.1 0) select_boundaries_stops
-  pub plan_subcompaction_ranges_lem : Reached (λ (x : List ℕ × List ℕ). plan_subcompaction_ranges_outcome 1 x.0 x.1 0) plan_subcompaction_ranges_stops
-  pub from_compaction_lem : Reached (λ (job : List ℕ). from_compaction_outcome job 0) from_compaction_stops
-  pub subtract_from_lem : Reached (λ (x : List ℕ × List ℕ). subtract_from_outcome x.0 x.1 0) subtract_from_stops
+  pub partition_point : Reached (λ (x : List ℕ × List ℕ). partition_point_outcome x.0 Below x.1) key_lookup_stops
+  pub first_partition_including_key : Reached (λ (x : List ℕ × List ℕ). first_partition_including_key_outcome x.0 x.1) key_lookup_stops
+  pub first_partition_including_or_after_key : Reached (λ (x : List ℕ × List ℕ). first_partition_including_or_after_key_outcome x.0 x.1) key_lookup_stops
+  pub last_partition_including_key : Reached (λ (x : List ℕ × List ℕ). last_partition_including_key_outcome x.0 x.1) key_lookup_stops
+  pub partitions_covering_range : Reached (λ (x : List ℕ × List ℕ). partitions_covering_range_outcome x.0 x.1) partitions_covering_range_stops
+  pub table_idx_covering_range : Reached (λ (x : List ℕ × List ℕ). table_idx_covering_range_outcome x.0 0 x.1) range_lookup_stops
+  pub overlaps_range : Reached (λ (x : List ℕ × List ℕ). overlaps_range_outcome x.0 0 x.1) range_lookup_stops
+  pub compacted_intersection : Reached (λ (x : List ℕ × List ℕ). compacted_intersection_outcome x.0 0 0 x.1) range_lookup_stops
+  pub calculate_view_range : Reached (λ (x : List ℕ × List ℕ). calculate_view_range_outcome x.0 0 0 x.1) range_lookup_stops
+  pub intersects_range : Reached (λ (x : List ℕ × List ℕ). intersects_range_outcome x.0 0 0 0 [] x.1) range_lookup_stops
+  pub visible_fraction : Reached (λ (image : List ℕ). visible_fraction_outcome image 0 0) visible_size_stops
+  pub estimate_visible_size : Reached (λ (image : List ℕ). estimate_visible_size_outcome image 0 0) visible_size_stops
+  pub estimate_run_visible_size : Reached (λ (image : List ℕ). estimate_run_visible_size_outcome image 0) visible_size_stops
+  pub sample_anchors : Reached (λ (x : List ℕ × List ℕ). sample_anchors_outcome 1 0 x.0 x.1 0) sample_anchors_stops
+  pub select_boundaries : Reached (λ (x : ℕ × List ℕ). select_boundaries_outcome x.0 0 x.1 0) select_boundaries_stops
+  pub plan_subcompaction_ranges : Reached (λ (x : List ℕ × List ℕ). plan_subcompaction_ranges_outcome 1 x.0 x.1 0) plan_subcompaction_ranges_stops
+  pub from_compaction : Reached (λ (job : List ℕ). from_compaction_outcome job 0) from_compaction_stops
+  pub subtract_from : Reached (λ (x : List ℕ × List ℕ). subtract_from_outcome x.0 x.1 0) subtract_from_stops
 
 pub record GivenToCommit : Type 0 where
   pub image : List ℕ
