@@ -8,6 +8,7 @@ use mathlib.Core.Path.{◌≡◌, refl, sym, ap, ◌∙◌}
 use mathlib.Core.List.{List, [], ◌∷◌}
 use lib.ListN.{length, get_or, take, drop}
 use lib.Seq.{drop-cons}
+use Rattle.std.specs.Int.{w64, from_be_bytes, from_le_bytes}
 use Rattle.base.specs.Bytes.{Bytes, bytes_tail}
 use Rattle.key.specs.Order.{cmp_key, cmp_number, or_else}
 use Rattle.key.specs.Word.{digits, reversed}
@@ -83,53 +84,25 @@ one_digit :
 unfolding digits
 one_digit n v a i j e h = rw (e, add-one, drop-cons a i 0)
 
-four_digits :
-    (v : ℕ) (a : List ℕ) (i : ℕ)
-    → i + 4 ≤ length a
-    → digits v (take 4 (drop i a))
-    ≡ (((v * 256 + get_or a i 0) * 256 + get_or a (i + 1) 0) * 256 + get_or a (i + 2) 0) * 256 + get_or a (i + 3) 0
-unfolding digits
-four_digits v a i h =
-    rw (
-      one_digit 3 v a i (i + 1) refl (omega arith),
-      one_digit 2 _ a (i + 1) (i + 2) (omega arith) (omega arith),
-      one_digit 1 _ a (i + 2) (i + 3) (omega arith) (omega arith),
-      one_digit 0 _ a (i + 3) (i + 4) (omega arith) (omega arith),
-    )
-
--- the sum that `half` makes
-pub four :
-    (a : List ℕ) (i : ℕ) {x₀ x₁ x₂ x₃ : ℕ}
-    → i + 4 ≤ length a
-    → x₀ ≡ get_or a i 0
-    → x₁ ≡ get_or a (i + 1) 0
-    → x₂ ≡ get_or a (i + 2) 0
-    → x₃ ≡ get_or a (i + 3) 0
-    → x₀ * 16777216 + x₁ * 65536 + x₂ * 256 + x₃ ≡ digits 0 (take 4 (drop i a))
-four a i h e₀ e₁ e₂ e₃ = omega (arith, four_digits 0 a i h)
-
--- and the one that `word` makes of two
-pub two_halves :
-    (a : List ℕ) (i : ℕ) {x y : ℕ}
+-- what `word` makes
+pub eight :
+    (a : List ℕ) (i : ℕ)
     → i + 8 ≤ length a
-    → x ≡ digits 0 (take 4 (drop i a))
-    → y ≡ digits 0 (take 4 (drop (i + 4) a))
-    → x * 4294967296 + y ≡ digits 0 (take 8 (drop i a))
-two_halves a i {x} {y} h e f =
-    let n : digits 0 (take 8 (drop i a)) ≡ digits (digits 0 (take 4 (drop i a))) (take 4 (drop (i + 4) a)) = first_four in
-    let p = four_digits (digits 0 (take 4 (drop i a))) a (i + 4) (omega arith) in
-    let q = four_digits 0 a (i + 4) (omega arith) in
-    omega (arith, n, p, q)
-  where
-    first_four : digits 0 (take 8 (drop i a)) ≡ digits (digits 0 (take 4 (drop i a))) (take 4 (drop (i + 4) a))
-    first_four =
-        rw (
-          one_digit 7 0 a i (i + 1) refl (omega arith),
-          one_digit 6 _ a (i + 1) (i + 2) (omega arith) (omega arith),
-          one_digit 5 _ a (i + 2) (i + 3) (omega arith) (omega arith),
-          one_digit 4 _ a (i + 3) (i + 4) (omega arith) (omega arith),
-          four_digits 0 a i (omega arith),
-        )
+    → from_be_bytes w64 (get_or a i 0 ∷ get_or a (i + 1) 0 ∷ get_or a (i + 2) 0 ∷ get_or a (i + 3) 0 ∷ get_or a (i + 4) 0 ∷ get_or a (i + 5) 0 ∷ get_or a (i + 6) 0 ∷ get_or a (i + 7) 0 ∷ [])
+    ≡ digits 0 (take 8 (drop i a))
+unfolding digits
+eight a i h =
+    rw (
+      one_digit 7 0 a i (i + 1) refl (omega arith),
+      one_digit 6 _ a (i + 1) (i + 2) (omega arith) (omega arith),
+      one_digit 5 _ a (i + 2) (i + 3) (omega arith) (omega arith),
+      one_digit 4 _ a (i + 3) (i + 4) (omega arith) (omega arith),
+      one_digit 3 _ a (i + 4) (i + 5) (omega arith) (omega arith),
+      one_digit 2 _ a (i + 5) (i + 6) (omega arith) (omega arith),
+      one_digit 1 _ a (i + 6) (i + 7) (omega arith) (omega arith),
+      one_digit 0 _ a (i + 7) (i + 8) (omega arith) (omega arith),
+    )
+    (omega arith)
 
 -- ---- the least significant byte first
 one_reversed :
@@ -140,21 +113,14 @@ one_reversed :
 unfolding reversed
 one_reversed n a i j e h = rw (e, add-one, drop-cons a i 0)
 
--- the sum that `reversed` makes
+-- what `reversed` makes
 pub eight_reversed :
-    (a : List ℕ) (i : ℕ) {x₀ x₁ x₂ x₃ x₄ x₅ x₆ x₇ : ℕ}
+    (a : List ℕ) (i : ℕ)
     → i + 8 ≤ length a
-    → x₀ ≡ get_or a i 0
-    → x₁ ≡ get_or a (i + 1) 0
-    → x₂ ≡ get_or a (i + 2) 0
-    → x₃ ≡ get_or a (i + 3) 0
-    → x₄ ≡ get_or a (i + 4) 0
-    → x₅ ≡ get_or a (i + 5) 0
-    → x₆ ≡ get_or a (i + 6) 0
-    → x₇ ≡ get_or a (i + 7) 0
-    → ((((((x₇ * 256 + x₆) * 256 + x₅) * 256 + x₄) * 256 + x₃) * 256 + x₂) * 256 + x₁) * 256 + x₀ ≡ reversed (take 8 (drop i a))
+    → from_le_bytes w64 (get_or a i 0 ∷ get_or a (i + 1) 0 ∷ get_or a (i + 2) 0 ∷ get_or a (i + 3) 0 ∷ get_or a (i + 4) 0 ∷ get_or a (i + 5) 0 ∷ get_or a (i + 6) 0 ∷ get_or a (i + 7) 0 ∷ [])
+    ≡ reversed (take 8 (drop i a))
 unfolding reversed
-eight_reversed a i h e₀ e₁ e₂ e₃ e₄ e₅ e₆ e₇ =
+eight_reversed a i h =
     rw (
       one_reversed 7 a i (i + 1) refl (omega arith),
       one_reversed 6 a (i + 1) (i + 2) (omega arith) (omega arith),
@@ -182,4 +148,4 @@ reversed_equal (x ∷ k) (y ∷ l) b c e q =
 
 pub ruleset number_exits = (less, greater, equal)
 
-pub ruleset word_exits = (four, two_halves, eight_reversed)
+pub ruleset word_exits = (eight, eight_reversed)

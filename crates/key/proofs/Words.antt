@@ -16,7 +16,7 @@ use Rattle.key.specs.Word.{WordAt, ReversedAt, Agree, Further}
 use Rattle.key.specs.declared.Order.{Order}
 use Rattle.key.proofs.Linear.{number_less, number_greater, key_self, key_order_is_total}
 use Rattle.key.proofs.Digits.{Compared, compared, below, same, above, or_else_assoc, number_self, digits_order, reversed_equal}
-use Rattle.key.proofs.Passed.{Passed, longer, shorter, ended}
+use Rattle.key.proofs.Passed.{Passed, lengths}
 
 -- equally long fronts decide, or what is left
 pub by_fronts :
@@ -35,7 +35,7 @@ pub none : (a b : List ℕ) → Agree a b 0
 none a b = record { below_a = omega arith; below_b = omega arith; front = refl }
 
 module _ {a b : List ℕ} {i : ℕ} (p : Agree a b i) where
-  back : {j : ℕ} → j ≤ i → Agree a b j
+  pub back : {j : ℕ} → j ≤ i → Agree a b j
   back {j} h =
       record {
         below_a = omega arith;
@@ -113,13 +113,10 @@ byte_differs = record { agree = λ t. absurd (let z : ◌≡◌ {A = ℕ} 0 1 = 
 pub first_byte : {a b : List ℕ} {i : ℕ} → Agree a b i → Further true a b (i + 0)
 first_byte {i = i} p = record { agree = λ t. rw add-zero p }
 
-pub all_same : {r : Bool} {a b : List ℕ} (i j : ℕ) → Further r a b (i + j) → j ≤ 32 → 32 ≤ j → Further r a b (i + 32)
-all_same i j p h k = let e : j ≡ 32 = omega arith in rw e at p
-
 pub further : {r : Bool} {a b : List ℕ} {i : ℕ} → Further r a b i → r ≡ true → Agree a b i
 further p e = p.agree e
 
-pub ruleset block = (byte_same, byte_differs, first_byte, all_same)
+pub ruleset block = (byte_same, byte_differs, first_byte)
 
 -- a turn of the loop
 module _ {a b : List ℕ} {i n x y : ℕ}
@@ -135,36 +132,21 @@ module _ {a b : List ℕ} {i n x y : ℕ}
     pub turn_same : x ≡ y → Agree a b (i + 8)
     turn_same e = onward p (omega arith) (omega arith) (same_bytes p m (omega arith) w z e)
 
--- the shorter key has ended: the lengths decide
-lengths :
-    {a b : List ℕ} {n : ℕ} {r : Order}
-    → Agree a b n
-    → n ≡ min (length a) (length b)
-    → r ≡ cmp_number (length a) (length b)
-    → r ≡ cmp_key a b
-lengths {a} {b} {n} {r} p m e = go (compared (length a) (length b))
-  where
-    go : Compared (length a) (length b) → r ≡ cmp_key a b
-    go (below h) = rw (e, number_less _ _ h) (shorter (passed p) (omega arith) (omega arith))
-    go (same h) = rw (e, h, number_self) (ended (passed p) (omega arith) (omega arith))
-    go (above h) = rw (e, number_greater _ _ h) (longer (passed p) (omega arith) (omega arith))
-
--- the last eight bytes of the shorter key, of which the first few are passed
-module _ {a b : List ℕ} {i n x y : ℕ} {r : Order}
-    (p : Agree a b i)
-    (h : n - 8 ≤ i)
+-- the last eight bytes of the shorter key, of which the first few may be passed
+module _ {a b : List ℕ} {n x y : ℕ} {r : Order}
+    (p : Agree a b (n - 8))
     (m : n ≡ min (length a) (length b))
     (k : 8 ≤ n)
     (w : WordAt a (n - 8) x)
     (z : WordAt b (n - 8) y)
   where
     pub last_differ : x ≢ y → r ≡ cmp_number x y → r ≡ cmp_key a b
-    last_differ d e = differ (back p h) m (omega arith) w z d e
+    last_differ d e = differ p m (omega arith) w z d e
 
     pub last_same : x ≡ y → r ≡ cmp_number (length a) (length b) → r ≡ cmp_key a b
     last_same d e =
         let q : n - 8 + 8 ≡ n = omega arith in
-        lengths (rw q at (onward (back p h) (omega arith) (omega arith) (same_bytes (back p h) m (omega arith) w z d))) m e
+        lengths (passed (rw q at (onward p (omega arith) (omega arith) (same_bytes p m (omega arith) w z d)))) (omega arith) e
 
 pub ruleset long = (none, further)
 

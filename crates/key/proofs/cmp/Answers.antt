@@ -1,59 +1,32 @@
 -- `key::cmp` meets its contract, by what its loop over eight bytes a turn keeps.
 -- Assumes nothing.
-use Rattle.key.proofs.Words.{kept}
+use Prim.Native.Nat.{◌-◌}
+use native.Mathlib.Omega.{arith}
+use Rattle.key.specs.Word.{Agree}
+use Rattle.key.proofs.Words.{back, turn_same, last_differ, last_same, kept}
 use borrow.Author.Rules.{rules}
+use Rattle.key.proofs.cmp.Goals.{else-loop-i-test, then-loop-i-test+else-x-y+else-i-end-i-gt8}
 use Rattle.key.proofs.cmp.Goals as goal
-
-pub shorter-n-requires : goal.shorter-n-requires
-shorter-n-requires c = search (rules, kept)
-
-pub cmp_bytes-requires : goal.cmp_bytes-requires
-cmp_bytes-requires c = search (rules, kept)
-
-pub returns-then-n-lt8 : goal.returns-then-n-lt8
-returns-then-n-lt8 c = search (rules, kept)
-
-pub agreed-i-requires : goal.agreed-i-requires
-agreed-i-requires c = search (rules, kept)
-
-pub loop-i-init : goal.loop-i-init
-loop-i-init c = search (rules, kept)
-
-pub word-x-requires : goal.word-x-requires
-word-x-requires c = search (rules, kept)
-
-pub word-y-requires : goal.word-y-requires
-word-y-requires c = search (rules, kept)
-
-pub cmp_number-requires : goal.cmp_number-requires
-cmp_number-requires c = search (rules, kept)
-
-pub returns-then-x-y : goal.returns-then-x-y
-returns-then-x-y c = search (rules, kept)
-
-pub overflow_add-i : goal.overflow_add-i
-overflow_add-i c = search (rules, kept)
-
-pub loop-i-smaller : goal.loop-i-smaller
-loop-i-smaller c = search (rules, kept)
 
 pub loop-i-preserved : goal.loop-i-preserved
 loop-i-preserved c = search (rules, kept)
 
-pub word-x-requires-2 : goal.word-x-requires-2
-word-x-requires-2 c = search (rules, kept)
-
-pub word-y-requires-2 : goal.word-y-requires-2
-word-y-requires-2 c = search (rules, kept)
-
-pub cmp_number-requires-then-x-y-2 : goal.cmp_number-requires-then-x-y-2
-cmp_number-requires-then-x-y-2 c = search (rules, kept)
-
 pub returns-then-x-y-2 : goal.returns-then-x-y-2
-returns-then-x-y-2 c = search (rules, kept)
+returns-then-x-y-2 c =
+    let p : Agree c.args.a.now c.args.b.now (c.shorter-n.result - 8) =
+    elim c.loop-i-test.branch [
+      | else-loop-i-test w ↦ back c.loop-i.invariant (omega arith)
+      | then-loop-i-test+else-x-y+else-i-end-i-gt8 w ↦ back (turn_same c.loop-i.invariant c.shorter-n.ensures w.loop-i-test.true w.word-x.ensures w.word-y.ensures w.if-x-y.false) (omega arith)
+    ]
+    in
+    last_same p c.shorter-n.ensures (omega arith) c.word-x-2.ensures c.word-y-2.ensures c.if-x-y-2.true c.cmp_number-then-x-y-2.ensures
 
-pub cmp_number-requires-2 : goal.cmp_number-requires-2
-cmp_number-requires-2 c = search (rules, kept)
-
-pub returns : goal.returns
-returns c = search (rules, kept)
+pub returns-else-x-y-2 : goal.returns-else-x-y-2
+returns-else-x-y-2 c =
+    let p : Agree c.args.a.now c.args.b.now (c.shorter-n.result - 8) =
+    elim c.loop-i-test.branch [
+      | else-loop-i-test w ↦ back c.loop-i.invariant (omega arith)
+      | then-loop-i-test+else-x-y+else-i-end-i-gt8 w ↦ back (turn_same c.loop-i.invariant c.shorter-n.ensures w.loop-i-test.true w.word-x.ensures w.word-y.ensures w.if-x-y.false) (omega arith)
+    ]
+    in
+    last_differ p c.shorter-n.ensures (omega arith) c.word-x-2.ensures c.word-y-2.ensures c.if-x-y-2.false c.cmp_number-else-x-y-2.ensures
