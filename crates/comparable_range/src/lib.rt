@@ -4,8 +4,10 @@
 
 ghost use Rattle.std.specs.Prelude.{◌≡◌};
 ghost use Rattle.comparable_range.specs.Range.{bound_of, range_of, of, cmp_bound, non_empty, holds, start_holds, end_holds};
-ghost use Rattle.comparable_range.specs.Range.{are_adjacent, cmp_range, start_side, end_side, intersect_sides, greater_end_side};
+ghost use Rattle.comparable_range.specs.Range.{are_adjacent, cmp_range, start_side, end_side, intersect_sides};
 ghost use Rattle.comparable_range.specs.Range.{meets, union_sides, unite_sides, exchanged, other};
+ghost use Rattle.comparable_range.specs.declared.Side.TheVariants.{First, Second};
+ghost use Rattle.key.specs.Order.{at_most};
 ghost use Rattle.base.specs.Pick.{pick};
 ghost use Rattle.comparable_range.specs.Factors.{is_keyed, tie, key_order, passes};
 
@@ -36,49 +38,38 @@ pub enum Sides {
 pub fn keyed(k: Kind) -> bool
     ensures { result ≡ is_keyed k }
 {
-    match k {
-        Kind::Unbounded => false,
-        Kind::Included => true,
-        Kind::Excluded => true,
-    }
+    matches!(k, Kind::Included | Kind::Excluded)
 }
 
 // The order of two bounds by their kinds alone: at equal keys, or where one has none.
 fn tied(ka: Kind, kb: Kind, start: bool) -> Order
     ensures { result ≡ tie start ka kb }
 {
-    match ka {
-        Kind::Unbounded => match kb {
-            Kind::Unbounded => Order::Equal,
-            Kind::Included => if start { Order::Less } else { Order::Greater },
-            Kind::Excluded => if start { Order::Less } else { Order::Greater },
-        },
-        Kind::Included => match kb {
-            Kind::Unbounded => if start { Order::Greater } else { Order::Less },
-            Kind::Included => Order::Equal,
-            Kind::Excluded => if start { Order::Less } else { Order::Greater },
-        },
-        Kind::Excluded => match kb {
-            Kind::Unbounded => if start { Order::Greater } else { Order::Less },
-            Kind::Included => if start { Order::Greater } else { Order::Less },
-            Kind::Excluded => Order::Equal,
-        },
+    match (ka, kb) {
+        (Kind::Unbounded, Kind::Unbounded)
+        | (Kind::Included, Kind::Included)
+        | (Kind::Excluded, Kind::Excluded) => Order::Equal,
+        (Kind::Unbounded, _) | (Kind::Included, Kind::Excluded) => {
+            if start { Order::Less } else { Order::Greater }
+        }
+        _ => if start { Order::Greater } else { Order::Less },
     }
 }
 
 // The order of two bounds' keys: equal where one has none.
+#[tactic(auto, unfolding(crate::specs::Factors::key_order))]
 fn key_order(ka: Kind, a: &[u8], kb: Kind, b: &[u8]) -> Order
     ensures { result ≡ key_order ka a.now kb b.now }
 {
-    if keyed(ka) {
-        if keyed(kb) {
-            return key::cmp(a, b);
-        }
+    if keyed(ka) && keyed(kb) {
+        key::cmp(a, b)
+    } else {
+        Order::Equal
     }
-    Order::Equal
 }
 
 // The order of two bounds, both starts or both ends.
+#[tactic(auto, using(crate::proofs::Factored::bounds_compared))]
 pub fn cmp_bound(ka: Kind, a: &[u8], kb: Kind, b: &[u8], start: bool) -> Order
     ensures { result ≡ cmp_bound start (bound_of ka a.now) (bound_of kb b.now) }
 {
@@ -92,23 +83,15 @@ fn passes_at(ka: Kind, kb: Kind, o: Order) -> bool
     match o {
         Order::Less => true,
         Order::Greater => false,
-        Order::Equal => match ka {
-            Kind::Unbounded => true,
-            Kind::Included => match kb {
-                Kind::Unbounded => true,
-                Kind::Included => true,
-                Kind::Excluded => false,
-            },
-            Kind::Excluded => match kb {
-                Kind::Unbounded => true,
-                Kind::Included => false,
-                Kind::Excluded => false,
-            },
-        },
+        Order::Equal => matches!(
+            (ka, kb),
+            (Kind::Unbounded, _) | (_, Kind::Unbounded) | (Kind::Included, Kind::Included)
+        ),
     }
 }
 
 // The Rust's rule: with two keys, start < end, or equality if both are included.
+#[tactic(auto, using(crate::proofs::Factored::bounds_tested))]
 pub fn non_empty(ks: Kind, s: &[u8], ke: Kind, e: &[u8]) -> bool
     ensures { result ≡ non_empty (range_of ks s.now ke e.now) }
 {
@@ -116,6 +99,7 @@ pub fn non_empty(ks: Kind, s: &[u8], ke: Kind, e: &[u8]) -> bool
 }
 
 // Whether a key lies at or after a start.
+#[tactic(auto, unfolding(crate::specs::Range::start_holds))]
 fn start_holds(k: Kind, s: &[u8], key: &[u8]) -> bool
     ensures { result ≡ start_holds (bound_of k s.now) key.now }
 {
@@ -127,6 +111,7 @@ fn start_holds(k: Kind, s: &[u8], key: &[u8]) -> bool
 }
 
 // Whether a key lies at or before an end.
+#[tactic(auto, unfolding(crate::specs::Range::end_holds))]
 fn end_holds(k: Kind, e: &[u8], key: &[u8]) -> bool
     ensures { result ≡ end_holds (bound_of k e.now) key.now }
 {
@@ -138,17 +123,15 @@ fn end_holds(k: Kind, e: &[u8], key: &[u8]) -> bool
 }
 
 // Whether a range holds a key.
+#[tactic(auto, unfolding(crate::specs::Range::holds))]
 pub fn contains(ks: Kind, s: &[u8], ke: Kind, e: &[u8], key: &[u8]) -> bool
     ensures { result ≡ holds (range_of ks s.now ke e.now) key.now }
 {
-    if start_holds(ks, s, key) {
-        return end_holds(ke, e, key);
-    }
-    false
+    start_holds(ks, s, key) && end_holds(ke, e, key)
 }
 
 // Of two values, the one of a side.
-fn kind_of(side: Side, a: Kind, b: Kind) -> Kind
+fn of<T: Copy>(side: Side, a: T, b: T) -> T
     ensures { result ≡ of side a b }
 {
     match side {
@@ -157,44 +140,39 @@ fn kind_of(side: Side, a: Kind, b: Kind) -> Kind
     }
 }
 
-fn key_of<'a>(side: Side, a: &'a [u8], b: &'a [u8]) -> &'a [u8]
-    ensures { result.now ≡ of side a.now b.now }
+// The greater of two bounds, both starts or both ends; of equal ones, the second.
+fn greater(ka: Kind, a: &[u8], kb: Kind, b: &[u8], start: bool) -> Side
+    ensures { result ≡ pick (at_most (cmp_bound start (bound_of ka a.now) (bound_of kb b.now))) Second First }
 {
-    match side {
-        Side::First => a,
-        Side::Second => b,
+    if key::at_most(cmp_bound(ka, a, kb, b, start)) {
+        Side::Second
+    } else {
+        Side::First
     }
 }
 
-fn side_if(t: bool, a: Side, b: Side) -> Side
-    ensures { result ≡ pick t a b }
-{
-    if t { a } else { b }
-}
-
 // The greater of two starts; of equal ones, the second.
+#[tactic(auto, unfolding(crate::specs::Range::start_side))]
 pub fn start_side(ka: Kind, a: &[u8], kb: Kind, b: &[u8]) -> Side
     ensures { result ≡ start_side (bound_of ka a.now) (bound_of kb b.now) }
 {
-    side_if(
-        key::at_most(cmp_bound(ka, a, kb, b, true)),
-        Side::Second,
-        Side::First,
-    )
+    greater(ka, a, kb, b, true)
 }
 
 // The lesser of two ends; of equal ones, the first.
+#[tactic(auto, unfolding(crate::specs::Range::end_side))]
 pub fn end_side(ka: Kind, a: &[u8], kb: Kind, b: &[u8]) -> Side
     ensures { result ≡ end_side (bound_of ka a.now) (bound_of kb b.now) }
 {
-    side_if(
-        key::at_most(cmp_bound(ka, a, kb, b, false)),
-        Side::First,
-        Side::Second,
-    )
+    if key::at_most(cmp_bound(ka, a, kb, b, false)) {
+        Side::First
+    } else {
+        Side::Second
+    }
 }
 
 // The intersection of two ranges: each is its start's kind and key, then its end's.
+#[tactic(auto, using(crate::proofs::Factored::pair_exits))]
 pub fn intersect<'a>(
     ks: Kind,
     s: &'a [u8],
@@ -210,36 +188,30 @@ pub fn intersect<'a>(
     let start = start_side(ks, s, js, t);
     let end = end_side(ke, e, je, f);
     if non_empty(
-        kind_of(start, ks, js),
-        key_of(start, s, t),
-        kind_of(end, ke, je),
-        key_of(end, e, f),
+        of(start, ks, js),
+        of(start, s, t),
+        of(end, ke, je),
+        of(end, e, f),
     ) {
-        return Sides::From(start, end);
+        Sides::From(start, end)
+    } else {
+        Sides::Nothing
     }
-    Sides::Nothing
 }
 
 // Whether an end and a start stand at one key that just one of them includes.
+#[tactic(auto, unfolding(crate::specs::Range::are_adjacent))]
 fn are_adjacent(ke: Kind, e: &[u8], ks: Kind, s: &[u8]) -> bool
     ensures { result ≡ are_adjacent (bound_of ke e.now) (bound_of ks s.now) }
 {
-    match ke {
-        Kind::Unbounded => false,
-        Kind::Included => match ks {
-            Kind::Unbounded => false,
-            Kind::Included => false,
-            Kind::Excluded => key::is_equal(key::cmp(e, s)),
-        },
-        Kind::Excluded => match ks {
-            Kind::Unbounded => false,
-            Kind::Included => key::is_equal(key::cmp(e, s)),
-            Kind::Excluded => false,
-        },
-    }
+    matches!(
+        (ke, ks),
+        (Kind::Included, Kind::Excluded) | (Kind::Excluded, Kind::Included)
+    ) && key::is_equal(key::cmp(e, s))
 }
 
 // The order of two ranges: by their starts, then by their ends.
+#[tactic(auto, unfolding(crate::specs::Range::cmp_range))]
 fn cmp_range(
     ks: Kind,
     s: &[u8],
@@ -258,27 +230,14 @@ fn cmp_range(
     )
 }
 
-// The greater of two ends; of equal ones, the second.
-fn greater_end(ka: Kind, a: &[u8], kb: Kind, b: &[u8]) -> Side
-    ensures { result ≡ greater_end_side (bound_of ka a.now) (bound_of kb b.now) }
-{
-    side_if(
-        key::at_most(cmp_bound(ka, a, kb, b, false)),
-        Side::Second,
-        Side::First,
-    )
-}
-
 fn found(sides: Sides) -> bool
     ensures { result ≡ meets sides }
 {
-    match sides {
-        Sides::Nothing => false,
-        Sides::From(_, _) => true,
-    }
+    matches!(sides, Sides::From(_, _))
 }
 
 // The union of two ranges of which the first is the lesser, or equal.
+#[tactic(auto, unfolding(crate::specs::Range::unite_sides, crate::specs::Range::greater_end_side))]
 fn unite<'a>(
     ks: Kind,
     s: &'a [u8],
@@ -291,13 +250,11 @@ fn unite<'a>(
 ) -> Sides
     ensures { result ≡ unite_sides (range_of ks s.now ke e.now) (range_of js t.now je f.now) }
 {
-    if found(intersect(ks, s, ke, e, js, t, je, f)) {
-        return Sides::From(Side::First, greater_end(ke, e, je, f));
+    if found(intersect(ks, s, ke, e, js, t, je, f)) || are_adjacent(ke, e, js, t) {
+        Sides::From(Side::First, greater(ke, e, je, f, false))
+    } else {
+        Sides::Nothing
     }
-    if are_adjacent(ke, e, js, t) {
-        return Sides::From(Side::First, greater_end(ke, e, je, f));
-    }
-    Sides::Nothing
 }
 
 fn other_side(side: Side) -> Side
@@ -320,6 +277,7 @@ fn exchange(sides: Sides) -> Sides
 }
 
 // The union of two ranges, where the Rust has one.
+#[tactic(auto, unfolding(crate::specs::Range::union_sides))]
 pub fn union<'a>(
     ks: Kind,
     s: &'a [u8],
@@ -333,7 +291,8 @@ pub fn union<'a>(
     ensures { result ≡ union_sides (range_of ks s.now ke e.now) (range_of js t.now je f.now) }
 {
     if key::is_less(cmp_range(ks, s, ke, e, js, t, je, f)) {
-        return unite(ks, s, ke, e, js, t, je, f);
+        unite(ks, s, ke, e, js, t, je, f)
+    } else {
+        exchange(unite(js, t, je, f, ks, s, ke, e))
     }
-    exchange(unite(js, t, je, f, ks, s, ke, e))
 }
