@@ -1,4 +1,3 @@
-pub mod Tests
 pub mod PlanBytes
 pub mod PlanPut
 pub mod Ordered

@@ -217,12 +217,6 @@ module _ {s keys bytes order : List ℕ} {n parts goal : ℕ} {marks₀ marks : 
       pub mark_in : count < length marks
       mark_in = omega (arith, more, p.most, p.wide)
 
-      pub mark_count : Fits w64 (count + 1)
-      mark_count = omega (arith, more, p.most)
-
-      pub mark_threshold : Fits w64 (threshold + goal)
-      mark_threshold = omega (arith, full, p.goal_small, next_sum, p.small)
-
       pub mark_more : Walking s keys bytes order n parts goal marks₀ (set marks count at) at (count + 1) (threshold + goal) (reached + get_or bytes row 0) (i + 1)
       mark_more =
           let c : parts - 1 - count - 1 ≡ parts - 1 - (count + 1) = omega arith in

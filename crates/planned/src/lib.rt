@@ -17,7 +17,7 @@ ghost use Rattle.subcompaction.specs.Tables.{anchors_in};
 use base::Written;
 use comparable_range::Kind;
 use key_rows::{key_part, put_key, same_key};
-use sorted_keys::{sort_few, sort_many};
+use sorted_keys::sort;
 
 // How many ranges are asked for, the least bytes of one, and the bytes of all anchors.
 #[derive(Clone, Copy)]
@@ -28,30 +28,24 @@ pub struct Asked {
 }
 
 // The bytes that a range is to have.
+#[tactic(auto, unfolding(subcompaction::specs::Boundaries::target))]
 fn target_bytes(parts: usize, least: u64, total: u64) -> u64
     requires { 0 < parts }
     ensures { result ≡ choice.target parts least total }
 {
-    let share = total / parts as u64;
-    if share < least {
-        return least;
-    }
-    share
+    (total / parts as u64).max(least)
 }
 
 // The same, or 0 where one range results.
+#[tactic(auto, using(crate::proofs::Choosing::goal_exits))]
 fn goal_bytes(ask: Asked) -> u64
     ensures { result ≡ goal_of ask.parts ask.least ask.total }
 {
-    let parts = ask.parts;
-    if parts <= 1 {
+    if ask.parts <= 1 {
         return 0;
     }
-    let goal = target_bytes(parts, ask.least, ask.total);
-    if ask.total <= goal {
-        return 0;
-    }
-    goal
+    let goal = target_bytes(ask.parts, ask.least, ask.total);
+    if ask.total <= goal { 0 } else { goal }
 }
 
 // Whether the key at one place is below the key at another.
@@ -69,16 +63,11 @@ fn begins(s: &[u8], left: usize, threshold: u64, before: u64, last: usize, at: u
     requires fact_2 { T (is_got (read_key (drop at s.now))) }
     ensures { result ≡ (ltb 0 left && leb threshold before && key_below (key_there s.now last) (key_there s.now at)) }
 {
-    if before < threshold {
-        return false;
-    }
-    if left == 0 {
-        return false;
-    }
-    below(s, last, at)
+    0 < left && threshold <= before && below(s, last, at)
 }
 
 // Marks the keys at which ranges begin, and answers how many they are.
+#[tactic(auto, using(crate::proofs::Walking::walk_exits))]
 fn boundaries(
     s: &[u8],
     keys: &[usize],
@@ -111,13 +100,11 @@ fn boundaries(
     let mut count = 0;
     let mut threshold = goal;
     let mut reached: u64 = 0;
-    let mut i = 0;
-    while i < n {
+    for i in 0..n {
         let row = order[i];
         let at = keys[row];
         let before = reached;
         reached += bytes[row];
-        i += 1;
         if begins(s, parts - 1 - count, threshold, before, last, at) {
             marks[count] = at;
             count += 1;
@@ -128,8 +115,9 @@ fn boundaries(
     count
 }
 
-// The boundaries that few anchors give: none where one range results.
-fn choose_few(
+// The boundaries that at most N anchors give: none where one range results.
+#[tactic(auto, using(crate::proofs::Choosing::choose_exits))]
+fn choose<const N: usize>(
     s: &[u8],
     keys: &[usize],
     bytes: &[u64],
@@ -141,7 +129,8 @@ fn choose_few(
     requires rows_1 { Rows s.now keys.now n }
     requires rows_2 { n ≤ length bytes.now }
     requires rows_3 { n ≤ length order.old }
-    requires rows_4 { n ≤ 64 }
+    requires rows_4 { n ≤ N }
+    requires rows_5 { N ≤ 4096 }
     requires total_value_1 { ask.total ≡ total (anchors_in s.now keys.now bytes.now n) }
     requires total_value_2 { ask.total < 2 ^ 63 }
     requires total_value_3 { ask.parts ≤ 64 }
@@ -152,35 +141,7 @@ fn choose_few(
     if goal == 0 {
         return 0;
     }
-    sort_few(s, keys, n, order);
-    boundaries(s, keys, bytes, order, n, ask.parts, goal, marks)
-}
-
-// The same of many.
-fn choose_many(
-    s: &[u8],
-    keys: &[usize],
-    bytes: &[u64],
-    n: usize,
-    order: &mut [usize],
-    ask: Asked,
-    marks: &mut [usize],
-) -> usize
-    requires rows_1 { Rows s.now keys.now n }
-    requires rows_2 { n ≤ length bytes.now }
-    requires rows_3 { n ≤ length order.old }
-    requires rows_4 { n ≤ 4096 }
-    requires total_value_1 { ask.total ≡ total (anchors_in s.now keys.now bytes.now n) }
-    requires total_value_2 { ask.total < 2 ^ 63 }
-    requires total_value_3 { ask.parts ≤ 64 }
-    requires total_value_4 { length marks.old ≡ 64 }
-    ensures { Marked s.now marks.new result (choice.chosen ask.parts ask.least (anchors_in s.now keys.now bytes.now n)) }
-{
-    let goal = goal_bytes(ask);
-    if goal == 0 {
-        return 0;
-    }
-    sort_many(s, keys, n, order);
+    sort::<N>(s, keys, n, order);
     boundaries(s, keys, bytes, order, n, ask.parts, goal, marks)
 }
 
@@ -189,28 +150,28 @@ fn end_kind(left: usize) -> Kind
     ensures { result ≡ end_kind left }
 {
     if 0 < left {
-        return Kind::Excluded;
+        Kind::Excluded
+    } else {
+        Kind::Unbounded
     }
-    Kind::Unbounded
 }
 
 // How many bytes the plan takes whose ranges meet at the marks.
+#[tactic(auto, using(crate::proofs::PlanPut::size_exits))]
 fn plan_size(s: &[u8], marks: &[usize], n: usize) -> usize
     requires fact_1 { Rows s.now marks.now n }
     requires fact_2 { n ≤ 63 }
     ensures { result ≡ length (plan_bytes (marked_keys s.now marks.now n)) }
 {
     let mut size = 2;
-    let mut i = 0;
-    while i < n {
-        let key = key_part(s, marks[i]);
-        size += 5 + 2 * key.len();
-        i += 1;
+    for i in 0..n {
+        size += 5 + 2 * key_part(s, marks[i]).len();
     }
     size
 }
 
 // Writes the end of one range and the start of the next, both at one key.
+#[tactic(auto, using(crate::proofs::PlanPut::joint_exits))]
 fn put_joint(s: &[u8], at: usize, left: usize, out: &mut [u8], to: usize) -> usize
     requires fact_1 { T (is_got (read_key (drop at s.now))) }
     requires fact_2 { to + length (joint (key_there s.now at) left) ≤ length out.old }
@@ -223,21 +184,20 @@ fn put_joint(s: &[u8], at: usize, left: usize, out: &mut [u8], to: usize) -> usi
 }
 
 // The same at each mark, past the count and the first range's head.
+#[tactic(auto, using(crate::proofs::PlanPut::put_exits))]
 fn put_joints(s: &[u8], marks: &[usize], n: usize, out: &mut [u8])
     requires fact_1 { Rows s.now marks.now n }
     requires fact_2 { 2 + length (joints (marked_keys s.now marks.now n)) ≤ length out.old }
     ensures { out.new ≡ splice out.old 2 (joints (marked_keys s.now marks.now n)) }
 {
     let mut to = 2;
-    let mut i = 0;
-    while i < n {
-        let at = marks[i];
-        i += 1;
-        to = put_joint(s, at, n - i, out, to);
+    for i in 0..n {
+        to = put_joint(s, marks[i], n - (i + 1), out, to);
     }
 }
 
 // Writes the plan whose ranges meet at the marks.
+#[tactic(auto, using(crate::proofs::PlanPut::plan_exits))]
 fn put_plan(s: &[u8], marks: &[usize], n: usize, out: &mut [u8])
     requires fact_1 { Rows s.now marks.now n }
     requires fact_2 { n ≤ 63 }
@@ -250,6 +210,7 @@ fn put_plan(s: &[u8], marks: &[usize], n: usize, out: &mut [u8])
 }
 
 // Check 16, and then the plan.
+#[tactic(auto, using(base::proofs::Outcome::written_exits, crate::proofs::PlanPut::at_front))]
 fn write_plan(s: &[u8], marks: &[usize], n: usize, out: &mut [u8]) -> Written
     requires fact_1 { Rows s.now marks.now n }
     requires fact_2 { n ≤ 63 }
@@ -264,8 +225,10 @@ fn write_plan(s: &[u8], marks: &[usize], n: usize, out: &mut [u8]) -> Written
     Written::Wrote(size)
 }
 
-// The plan of the anchors of the first n rows, which are few.
-pub fn planned_few(
+// The plan of the anchors of the first n rows, with tables of N rows to work in. Callers have it apart for few and for many, so that
+// a plan of few does not pay for the pages of the tables of many.
+#[tactic(auto, using(crate::proofs::Choosing::planned_exits))]
+pub fn planned<const N: usize>(
     s: &[u8],
     keys: &[usize],
     bytes: &[u64],
@@ -275,7 +238,8 @@ pub fn planned_few(
 ) -> Written
     requires rows_1 { Rows s.now keys.now n }
     requires rows_2 { n ≤ length bytes.now }
-    requires rows_3 { n ≤ 64 }
+    requires rows_3 { n ≤ N }
+    requires rows_4 { N ≤ 4096 }
     requires total_value_1 { ask.total ≡ total (anchors_in s.now keys.now bytes.now n) }
     requires total_value_2 { ask.total < 2 ^ 63 }
     requires total_value_3 { ask.parts ≤ 64 }
@@ -283,31 +247,7 @@ pub fn planned_few(
     ensures out_after { out.new ≡ lent out.old (plan_to (length out.old) ask.parts ask.least s.now keys.now bytes.now n) }
 {
     let mut marks = [0usize; 64];
-    let mut order = [0usize; 64];
-    let count = choose_few(s, keys, bytes, n, &mut order, ask, &mut marks);
-    write_plan(s, &marks, count, out)
-}
-
-// The same of many. Both calls that plan use it, so that it stands apart: a plan of few does not pay for the pages of its tables.
-pub fn planned_many(
-    s: &[u8],
-    keys: &[usize],
-    bytes: &[u64],
-    n: usize,
-    ask: Asked,
-    out: &mut [u8],
-) -> Written
-    requires rows_1 { Rows s.now keys.now n }
-    requires rows_2 { n ≤ length bytes.now }
-    requires rows_3 { n ≤ 4096 }
-    requires total_value_1 { ask.total ≡ total (anchors_in s.now keys.now bytes.now n) }
-    requires total_value_2 { ask.total < 2 ^ 63 }
-    requires total_value_3 { ask.parts ≤ 64 }
-    ensures value { result ≡ reported (plan_to (length out.old) ask.parts ask.least s.now keys.now bytes.now n) }
-    ensures out_after { out.new ≡ lent out.old (plan_to (length out.old) ask.parts ask.least s.now keys.now bytes.now n) }
-{
-    let mut marks = [0usize; 64];
-    let mut order = [0usize; 4096];
-    let count = choose_many(s, keys, bytes, n, &mut order, ask, &mut marks);
+    let mut order = [0usize; N];
+    let count = choose::<N>(s, keys, bytes, n, &mut order, ask, &mut marks);
     write_plan(s, &marks, count, out)
 }

@@ -1,16 +1,16 @@
--- The exits of `stride`, `lesser`, `beginning` and `group_there`: the first of the blocks that are left, and those after its group.
+-- The exits of `stride`, `beginning` and `group_there`: the first of the blocks that are left, and those after its group.
 -- Assumes nothing.
-use Prim.Native.Nat.{ℕ, zero, suc, ◌+◌, ◌-◌, ◌/◌, ◌<◌, ◌≤◌, max}
+use Prim.Native.Nat.{ℕ, zero, suc, ◌+◌, ◌-◌, ◌/◌, ◌%◌, ◌<◌, ◌≤◌, max, min}
 use native.Mathlib.Omega.{arith}
-use native.Mathlib.Nat.{add-zero, div-one, max-eq_right}
+use native.Mathlib.Nat.{max_comm, min_comm}
 use mathlib.Core.Path.{◌≡◌, refl, sym, ap, ◌∙◌}
-use mathlib.Core.Bool.{Bool, true, false}
 use mathlib.Core.List.{List, ◌∷◌, ◌++◌}
-use lib.ListN.{length, drop, length-drop, drop_of_length-le}
+use lib.ListN.{length, drop, length-drop}
 use lib.Seq.{drop_at}
-use lib.Dec.{T, ltb}
-use borrow.Author.Tests.{lt-ltb, le-ltb, ltb-true, ltb-false}
-use Rattle.base.specs.Pick.{pick}
+use Rattle.std.specs.Int.{div_ceil}
+use Rattle.std.proofs.lemmas.Grind.{div_ceil_times}
+use Rattle.std.proofs.lemmas.List.{drop_min}
+use lib.Dec.{T}
 use Rattle.key.specs.Order.{Key}
 use Rattle.format.specs.Got.{Got, got, stop, and_then, is_got}
 use Rattle.format.specs.Number.{read_number}
@@ -24,44 +24,18 @@ use Rattle.records.specs.There.{BlockThere, Past}
 use Rattle.records.specs.declared.there.BlockSpan.{BlockSpan}
 use Rattle.records.proofs.Forms.{read_many_length, many_split}
 use Rattle.records.proofs.ThereExits.{block_room}
-use Rattle.manifest.specs.Faults.{least}
 use Rattle.key_rows.specs.Rows.{key_there}
 use Rattle.subcompaction.specs.Anchors.{stride, beginning}
 use Rattle.sampled.specs.Groups.{GroupThere}
 use Rattle.sampled.proofs.SampleSizes.{block_is_long, blocks_are_long}
 
 -- ---- stride
-pub stride_all : (most blocks : ℕ) → most ≡ 0 → blocks ≡ stride most blocks
+pub stride_is : (most blocks : ℕ) → div_ceil blocks (max most 1) ≡ stride most blocks
 unfolding stride
-stride_all most blocks e = rw (e, add-zero, div-one)
-
-pub stride_up : (most blocks : ℕ) → (most ≡ 0 → ⊥) → (blocks + (most - 1)) / most ≡ stride most blocks
-unfolding stride
-stride_up zero blocks h = absurd (h refl)
-stride_up (suc m) blocks h =
-    let z : max 1 (suc m) ≡ suc m = max-eq_right (omega arith) in
-    rw z
-
-pub ruleset stride_exits = (stride_all, stride_up)
-
--- ---- lesser
-pub first_lesser : (a b : ℕ) → a < b → a ≡ least a b
-unfolding least
-first_lesser a b h = rw (lt-ltb a b h)
-
-pub second_lesser : (a b : ℕ) → b ≤ a → b ≡ least a b
-unfolding least
-second_lesser a b h = rw (le-ltb a b h)
-
-pub ruleset lesser_exits = (first_lesser, second_lesser)
-
-least_by : (P : ℕ → Type 0) (a b : ℕ) → (a < b → P a) → (b ≤ a → P b) → P (least a b)
-unfolding least
-least_by P a b f g = go (ltb a b) refl
+stride_is most blocks = rw (max_comm most 1) (up blocks (max 1 most) (omega arith))
   where
-    go : (t : Bool) → ltb a b ≡ t → P (pick t a b)
-    go true e = f (ltb-true a b e)
-    go false e = g (ltb-false a b e)
+    up : (a b : ℕ) → 0 < b → a / b + min 1 (a % b) ≡ (a + (b - 1)) / b
+    up a b h = grind (arith, div_ceil_times)
 
 -- ---- the first of some values that are there
 record FirstOf {A : Type 0} (f : List ℕ → Got A) (n : ℕ) (l : List ℕ) : Type 0 where
@@ -155,18 +129,12 @@ cut f l left n a m p q e t =
       all = x.all ∙ ap (λ bs. got bs x.rest) (ap (λ v. v ∷ x.others) y ∙ ap (λ bs. a ∷ bs) c.both);
     }
 
-drop_least : {A : Type 0} (x : List A) (k : ℕ) → drop (least (length x) k) x ≡ drop k x
-drop_least x k =
-    least_by (λ m. drop m x ≡ drop k x) (length x) k
-    (λ h. drop_of_length-le x {i = length x} (omega arith) ∙ sym (drop_of_length-le x {i = k} (omega arith)))
-    (λ h. refl)
-
-module _ (s : List ℕ) (at left step : ℕ) {n : ℕ} (t : T (is_got (read_many block.read left (drop at s)))) (p : 0 < left) (u : 0 < step) (e : n ≡ least left step) where
+module _ (s : List ℕ) (at left step : ℕ) {n : ℕ} (t : T (is_got (read_many block.read left (drop at s)))) (p : 0 < left) (u : 0 < step) (e : n ≡ min left step) where
   pub group_within : n ≤ left
-  group_within = rw e (least_by (λ m. m ≤ left) left step (λ h. omega arith) (λ h. h))
+  group_within = omega arith
 
   pub group_some : 1 ≤ n
-  group_some = rw e (least_by (λ m. 1 ≤ m) left step (λ h. p) (λ h. u))
+  group_some = omega arith
 
   pub first_there : T (is_got (block.read (drop at s)))
   first_there = rw (first_of block.read left (drop at s) p t).one tt
@@ -211,8 +179,9 @@ module _ (s : List ℕ) (at left step : ℕ) {n : ℕ} (t : T (is_got (read_many
       left_over =
           let x = b' ∷ (parts.front ++ parts.back) in
           let k : length (b' ∷ parts.front) ≡ n = omega (arith, read_many_length block.read (n - 1) (drop b.past s) parts.front parts.middle parts.first, group_some) in
-          sym (drop_least x step)
-          ∙ ap (λ i. drop (least i step) x) count
+          sym (drop_min step x)
+          ∙ ap (λ i. drop i x) (min_comm step (length x))
+          ∙ ap (λ i. drop (min i step) x) count
           ∙ ap (λ i. drop i x) (sym e)
           ∙ drop_at (b' ∷ parts.front) parts.back n k
 

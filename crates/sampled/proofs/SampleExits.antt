@@ -7,7 +7,6 @@ use mathlib.Core.Path.{◌≡◌, refl, sym, ap, ◌∙◌}
 use mathlib.Core.Bool.{Bool, true, false}
 use mathlib.Core.List.{List, [], ◌∷◌, ◌++◌, append_assoc, append-nil}
 use lib.ListN.{length, drop, set, length-set, length-drop}
-use lib.Seq.{set_out}
 use lib.Dec.{T, ltb}
 use mir.Val.{Fits}
 use mir.Syntax.{w64}
@@ -34,25 +33,13 @@ use Rattle.subcompaction.specs.Tables.{Held, index_there}
 use Rattle.sampled.specs.Groups.{GroupThere, row_added, RowIf}
 use Rattle.sampled.specs.declared.GroupSpan.{GroupSpan}
 use Rattle.sampled.specs.declared.Kept.{Kept}
-use Rattle.sampled.proofs.SampleSizes.{groups_step, groups_none, index_is_long}
+use Rattle.sampled.proofs.SampleSizes.{groups_step, groups_none}
 use Rattle.subcompaction.proofs.Samples.{stride_reaches}
 use Rattle.sampled.proofs.HeldRows.{held_more}
 
 -- ---- key_held
 pub key_asked : (s : List ℕ) (at : ℕ) (r : Range) {key : List ℕ} {t : Bool} → key ≡ key_there s at → t ≡ holds r key → t ≡ holds r (key_there s at)
 key_asked s at r e h = h ∙ rw e
-
--- ---- with_row
-pub row_added_lem : (k : Kept) (size : ℕ) {n : ℕ} → n ≡ least (k.total + size) (2 ^ 63) → record { rows = k.rows + 1; total = n } ≡ row_added size k
-row_added_lem k size e = rw e
-
-pub row_not_stored : (k : Kept) (keys : List ℕ) (v : ℕ) → length keys ≤ k.rows → keys ≡ set keys k.rows v
-row_not_stored k keys v h = sym (set_out keys k.rows v h)
-
-pub size_not_stored : (k : Kept) (keys bytes : List ℕ) (v : ℕ) → length bytes ≡ length keys → length keys ≤ k.rows → bytes ≡ set bytes k.rows v
-size_not_stored k keys bytes v e h = sym (set_out bytes k.rows v (rw e h))
-
-pub ruleset row_exits = (row_added_lem, row_not_stored, size_not_stored)
 
 -- ---- with_group
 module _ {t w : Bool} (e : w ≡ t) (g : GroupSpan) (k : Kept) (keys bytes : List ℕ) where
@@ -65,6 +52,8 @@ module _ {t w : Bool} (e : w ≡ t) (g : GroupSpan) (k : Kept) (keys bytes : Lis
   row_not_put q =
       let z : t ≡ false = sym e ∙ q in
       record { kept = rw z; keys_are = rw z; bytes_are = rw z }
+
+pub ruleset with_group_exits = (row_put, row_not_put)
 
 -- ---- sample
 pub record Sampled (s keys₀ bytes₀ : List ℕ) (q : Range) (most data_end step : ℕ) (x : Index) (k₀ : Kept) (keys bytes : List ℕ) (k : Kept) (at left : ℕ) : Type 0 where
@@ -125,9 +114,6 @@ module _ (s : List ℕ) (at : ℕ) (t : T (is_got (index.read (drop at s)))) whe
 
     pub count : length (index_there s at) ≡ n
     count = read_many_length block.read n (drop (at + 2) s) (index_there s at) values.rest reads
-
-    pub stride_fits : length s < 2 ^ 64 → n + 4096 < 2 ^ 64
-    stride_fits h = omega (arith, count, index_is_long (drop at s) (index_there s at) values.rest values.is, length-drop at s)
 
     pub sampled_begin :
         (keys bytes : List ℕ) (q : Range) (most data_end : ℕ) (k : Kept) {step : ℕ}
@@ -294,4 +280,4 @@ module _ {s keys₀ bytes₀ : List ℕ} {q : Range} {most data_end step : ℕ} 
   pub sampled_bytes : length bytes ≡ length bytes₀
   sampled_bytes = p.bytes_long
 
-pub ruleset sample_exits = (index_room, blocks_fit, stride_fits, sampled_begin, sampled_place, sampled_there_lem, sampled_some, sampled_wide, sampled_most, row_fits, group_key, groups_fewer, sampled_onward, sampled_held, sampled_total, sampled_keys, sampled_bytes)
+pub ruleset sample_exits = (index_room, blocks_fit, sampled_begin, sampled_place, sampled_there_lem, sampled_some, sampled_wide, sampled_most, row_fits, group_key, groups_fewer, sampled_onward, sampled_held, sampled_total, sampled_keys, sampled_bytes)

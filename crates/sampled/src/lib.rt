@@ -1,7 +1,7 @@
 // The anchors of a table: its blocks in groups, each with its first key and its bytes; those whose key a range holds.
 #![tactic(auto)]
 
-ghost use Rattle.std.specs.Prelude.{◌≡◌, ◌≤◌, ◌<◌, ◌+◌, ◌-◌, ◌^◌, T, length, drop, set};
+ghost use Rattle.std.specs.Prelude.{◌≡◌, ◌≤◌, ◌<◌, ◌+◌, ◌^◌, T, length, drop, set};
 ghost use Rattle.format.specs.Got.{is_got};
 ghost use Rattle.format.specs.Key.{read_key};
 ghost use Rattle.format.specs.Range.{BoundInside};
@@ -43,49 +43,29 @@ pub struct GroupSpan {
 }
 
 // How many blocks a group has, rounded up, so that there are at most so many groups. 0 acts as 1.
+#[tactic(auto, using(crate::proofs::GroupExits::stride_is))]
 fn stride(most: usize, blocks: usize) -> usize
-    requires fact_1 { most ≤ 4096 }
-    requires fact_2 { blocks + 4096 < 2 ^ 64 }
     ensures { result ≡ spec.stride most blocks }
 {
-    if most == 0 {
-        return blocks;
-    }
-    (blocks + (most - 1)) / most
-}
-
-fn lesser(a: usize, b: usize) -> usize
-    ensures { result ≡ least a b }
-{
-    if a < b {
-        return a;
-    }
-    b
-}
-
-// One number less another, or 0.
-fn less(a: u64, b: u64) -> u64
-    ensures { result ≡ a - b }
-{
-    if b < a {
-        return a - b;
-    }
-    0
+    blocks.div_ceil(most.max(1))
 }
 
 // Where the blocks that are left begin: with the first of them, or where the data end.
+#[tactic(auto, using(crate::proofs::GroupExits::beginning_exits))]
 fn beginning(s: &[u8], at: usize, left: usize, data_end: u64) -> u64
     requires fact_1 { at ≤ length s.now }
     requires fact_2 { T (is_got (read_many block.read left (drop at s.now))) }
     ensures { result ≡ spec.beginning data_end (values_of (read_many block.read left (drop at s.now))) }
 {
     if left == 0 {
-        return data_end;
+        data_end
+    } else {
+        format::number_there(s, at, 8)
     }
-    format::number_there(s, at, 8)
 }
 
 // The group at a place, of as many blocks as the stride or as are left.
+#[tactic(auto, using(crate::proofs::GroupExits::group_exits))]
 fn group_there(s: &[u8], at: usize, left: usize, stride: usize, data_end: u64) -> GroupSpan
     requires fact_1 { at ≤ length s.now }
     requires fact_2 { T (is_got (read_many block.read left (drop at s.now))) }
@@ -93,13 +73,13 @@ fn group_there(s: &[u8], at: usize, left: usize, stride: usize, data_end: u64) -
     requires fact_4 { 0 < stride }
     ensures { GroupThere s.now at left stride data_end result }
 {
-    let n = lesser(left, stride);
+    let n = left.min(stride);
     let first = records::block_there(s, at);
     let past = records::blocks_past(s, first.past, n - 1);
     let end = beginning(s, past, left - n, data_end);
     GroupSpan {
         key: first.key,
-        bytes: less(end, first.offset),
+        bytes: end.saturating_sub(first.offset),
         past,
         left: left - n,
     }
@@ -114,20 +94,18 @@ fn with_row(keys: &mut [usize], bytes: &mut [u64], key: usize, size: u64, kept: 
     ensures keys_after { keys.new ≡ set keys.old kept.rows key }
     ensures bytes_after { bytes.new ≡ set bytes.old kept.rows size }
 {
-    let row = kept.rows;
-    let more = Kept {
-        rows: row + 1,
-        total: manifest::added(kept.total, size),
-    };
-    if row < keys.len() {
-        keys[row] = key;
-        bytes[row] = size;
-        return more;
+    if kept.rows < keys.len() {
+        keys[kept.rows] = key;
+        bytes[kept.rows] = size;
     }
-    more
+    Kept {
+        rows: kept.rows + 1,
+        total: manifest::added(kept.total, size),
+    }
 }
 
 // Whether a range holds the key that stands at a place.
+#[tactic(auto, using(crate::proofs::SampleExits::key_asked))]
 fn key_held(s: &[u8], at: usize, within: &[u8], range: RangeSpan) -> bool
     requires fact_1 { T (is_got (read_key (drop at s.now))) }
     requires fact_2 { BoundInside within.now range.start }
@@ -138,6 +116,7 @@ fn key_held(s: &[u8], at: usize, within: &[u8], range: RangeSpan) -> bool
 }
 
 // The row of a group, if the range holds its key.
+#[tactic(auto, using(crate::proofs::SampleExits::with_group_exits))]
 fn with_group(
     s: &[u8],
     g: GroupSpan,
@@ -156,12 +135,14 @@ fn with_group(
     ensures { RowIf (held_there s.now g.key within.now range) g kept keys.old bytes.old result keys.new bytes.new }
 {
     if key_held(s, g.key, within, range) {
-        return with_row(keys, bytes, g.key, g.bytes, kept);
+        with_row(keys, bytes, g.key, g.bytes, kept)
+    } else {
+        kept
     }
-    kept
 }
 
 // The anchors of the index at a place, after those that the tables hold. Rows past the tables' end are counted, not stored.
+#[tactic(auto, using(crate::proofs::SampleExits::sample_exits))]
 pub fn sample(
     s: &[u8],
     ask: Sampling,
