@@ -1,6 +1,6 @@
 -- What it means that entries are planned: they are counted, their ids are drawn as far as the supply goes, and the rows stand
 -- for the views that they become.
-use Rattle.std.specs.Prelude.{ℕ, suc, ◌+◌, ◌*◌, ◌<◌, ◌≤◌, ◌≡◌, Bool, true, false, List, [], ◌∷◌, ◌++◌, map, length, take, drop}
+use Rattle.std.specs.Prelude.{ℕ, ◌+◌, ◌*◌, ◌≤◌, ◌≡◌, Bool, true, false, List, [], ◌∷◌, ◌++◌, map, length, take, drop}
 use Rattle.base.specs.Pick.{pick}
 use Rattle.base.specs.Rows.{RowsHold}
 use Rattle.base.specs.Splice.{splice}
@@ -9,7 +9,7 @@ use Rattle.records.specs.Form.{write_many}
 use Rattle.records.specs.Values.{View}
 use Rattle.records.specs.Layouts.{view}
 use Rattle.records.specs.declared.ids.ViewId.{ViewId}
-use Rattle.incremental_progress.specs.Draws.{Drawn, used_up, got, supply, draw, drawn_view, fill_all}
+use Rattle.incremental_progress.specs.Draws.{used_up, got, supply, draw, drawn_view, fill_all}
 use Rattle.incremental_progress.specs.Entries.{Entry, whole, cut, entry_view}
 use Rattle.incremental_progress.specs.Gaps.{Placed, placed}
 use Rattle.commit_rows.specs.Numbers.{row_of, row_numbers}

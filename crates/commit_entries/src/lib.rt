@@ -31,8 +31,7 @@ fn bound_len(kind: Kind, len: usize) -> usize
 {
     match kind {
         Kind::Unbounded => 0,
-        Kind::Included => 2 + len,
-        Kind::Excluded => 2 + len,
+        Kind::Included | Kind::Excluded => 2 + len,
     }
 }
 
@@ -41,20 +40,18 @@ fn range_len(start: BoundSpan, end: BoundSpan) -> usize
     ensures value { result ≡ range_length start end }
     ensures upper_bound { result ≤ 524293 }
 {
-    let ks = start.kind;
-    let ke = end.kind;
-    1 + bound_len(ks, start.len) + bound_len(ke, end.len)
+    1 + bound_len(start.kind, start.len) + bound_len(end.kind, end.len)
 }
 
 // How many bytes a row's view takes.
+#[tactic(auto, unfolding(commit_rows::specs::Bytes::row_length))]
 fn row_len(r: Row) -> usize
     requires { RowSmall r }
     ensures value { result ≡ row_length r }
     ensures upper_bound { result ≤ 1048576 }
 {
-    let form = r.form;
     let long = r.past - r.at;
-    match form {
+    match r.form {
         Form::Whole => long,
         Form::Output => 17 + long,
         Form::CutOutput => 17 + long + range_len(r.start, r.end),
@@ -82,9 +79,7 @@ pub fn add_row(rows: &mut [usize], p: Plan, r: Row) -> Plan
     Plan {
         rows: p.rows + 1,
         bytes: p.bytes + row_len(r),
-        cuts: p.cuts,
-        drawn: p.drawn,
-        enough: p.enough,
+        ..p
     }
 }
 
@@ -100,36 +95,27 @@ fn next_ten(old: ViewId, ids: &[u8], p: Plan) -> Ten
     requires fact_2 { p.cuts ≤ 1099511627776 }
     ensures { TenFound old ids.now p result }
 {
-    let none = Ten {
-        at: 0,
-        plan: Plan {
-            rows: p.rows,
-            bytes: p.bytes,
-            cuts: p.cuts + 1,
-            drawn: p.drawn,
-            enough: false,
-        },
-    };
+    let cuts = p.cuts + 1;
     if p.enough {
-        match commit_ids::draw(old, ids, p.drawn) {
-            Draw::UsedUp => {
-                return none;
-            }
-            Draw::At(at) => {
-                return Ten {
-                    at,
-                    plan: Plan {
-                        rows: p.rows,
-                        bytes: p.bytes,
-                        cuts: p.cuts + 1,
-                        drawn: at + 10,
-                        enough: true,
-                    },
-                };
-            }
+        if let Draw::At(at) = commit_ids::draw(old, ids, p.drawn) {
+            return Ten {
+                at,
+                plan: Plan {
+                    cuts,
+                    drawn: at + 10,
+                    ..p
+                },
+            };
         }
     }
-    none
+    Ten {
+        at: 0,
+        plan: Plan {
+            cuts,
+            enough: false,
+            ..p
+        },
+    }
 }
 
 // One row more, under a new id.
@@ -138,19 +124,6 @@ pub fn add_cut(old: ViewId, ids: &[u8], rows: &mut [usize], p: Plan, r: Row) -> 
     requires fact_2 { PlanReady ids.now 1099511627776 p }
     ensures { AddedCut old ids.now r p rows.old result rows.new }
 {
-    let t = next_ten(old, ids, p);
-    let form = r.form;
-    let start = r.start;
-    let end = r.end;
-    let plan = t.plan;
-    let row = Row {
-        form,
-        bucket: r.bucket,
-        at: r.at,
-        past: r.past,
-        start,
-        end,
-        ten: t.at,
-    };
-    add_row(rows, plan, row)
+    let Ten { at, plan } = next_ten(old, ids, p);
+    add_row(rows, plan, Row { ten: at, ..r })
 }

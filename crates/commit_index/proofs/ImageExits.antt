@@ -1,6 +1,6 @@
 -- What the loop over an image's runs keeps: the runs read so far, the first of the checks 4 to 7 that these fail, and their rows.
 -- Assumes nothing.
-use Prim.Native.Nat.{ℕ, suc, ◌+◌, ◌*◌, ◌-◌, ◌^◌, ◌≤◌, ◌<◌}
+use Prim.Native.Nat.{ℕ, suc, ◌+◌, ◌*◌, ◌-◌, ◌≤◌, ◌<◌}
 use native.Mathlib.Omega.{arith}
 use native.Mathlib.Nat.{le_antisymm}
 use mathlib.Core.Path.{◌≡◌, refl, sym, ap, ◌∙◌}
@@ -9,8 +9,6 @@ use mathlib.Core.List.{List, [], ◌∷◌, ◌++◌, map}
 use lib.ListN.{length, get_or, take, drop, length-append, length-drop}
 use lib.Seq.{slice, slice-cons, slice_empty, take_all}
 use lib.Dec.{T, eqb}
-use mir.Val.{Fits}
-use mir.Syntax.{w64}
 use borrow.Author.Tests.{eq-eqb}
 use Rattle.base.specs.Rows.{RowsHold, hold_none, hold_more}
 use Rattle.base.specs.Splice.{splice, spliced_length}
@@ -56,11 +54,10 @@ module _ {l : List ℕ} {n id i : ℕ} (p : Unshared l n id i) where
 
 -- the same of the ids of rows
 pub record NotYet (t : List ℕ) (n id i : ℕ) : Type 0 where
-  pub room : n * 4 ≤ length t
   pub none : Unshared (row_ids n t) n id i
 
-pub not_begin : (t : List ℕ) (n id : ℕ) → n * 4 ≤ length t → NotYet t n id 0
-not_begin t n id h = record { room = h; none = unshared_none (row_ids n t) n id (omega (arith, ids_length n t)) }
+pub none_yet : (t : List ℕ) (n id : ℕ) → NotYet t n id 0
+none_yet t n id = record { none = unshared_none (row_ids n t) n id (omega (arith, ids_length n t)) }
 
 module _ {t : List ℕ} {n id i : ℕ} (p : NotYet t n id i) where
   all_ids : take n (row_ids n t) ≡ row_ids n t
@@ -70,19 +67,13 @@ module _ {t : List ℕ} {n id i : ℕ} (p : NotYet t n id i) where
   not_all h = sym (ap (has id) (sym all_ids) ∙ unshared_all p.none h)
 
   module _ (h : i < n) where
-    pub row_in : i * 4 < length t
-    row_in = omega (arith, p.room)
-
-    pub row_place_fits : length t < 2 ^ 64 → Fits w64 (i * 4)
-    row_place_fits l = omega (arith, p.room)
-
     pub this_one : get_or t (i * 4) 0 ≡ id → true ≡ has id (row_ids n t)
     this_one e = sym (ap (has id) (sym all_ids) ∙ shared p.none h (id_number n i t h ∙ e))
 
     pub not_this : (get_or t (i * 4) 0 ≡ id → ⊥) → NotYet t n id (i + 1)
-    not_this e = record { room = p.room; none = unshared_more p.none h (λ q. e (sym (id_number n i t h) ∙ q)) }
+    not_this e = record { none = unshared_more p.none h (λ q. e (sym (id_number n i t h) ∙ q)) }
 
-pub ruleset among_exits = (not_begin, not_all, row_in, row_place_fits, this_one, not_this)
+pub ruleset among_exits = (none_yet, not_all, this_one, not_this)
 
 -- ---- shared_fault
 module _ (id n : ℕ) (t : List ℕ) {b : Bool} (e : b ≡ has id (row_ids n t)) where
@@ -112,7 +103,7 @@ module _ (s : List ℕ) (at : ℕ) {r : RunRead} (f : RunFound s (run_head.read 
   head_stop q = record { is = run_stops s at f q }
 
   module _ {i m next : ℕ} (q : r ≡ HeadAt i m next) where
-    pub views_from : next ≤ length s
+    views_from : next ≤ length s
     views_from = views_place s at f q
 
     module _ {w : Judged} (x : JudgedFound s (faults views_checks (read_many view.read m (drop next s))) w) where
@@ -146,7 +137,7 @@ module _ (s : List ℕ) (at : ℕ) {r : RunRead} (f : RunFound s (run_head.read 
                 };
           }
 
-pub ruleset run_exits = (head_stop, views_from, run_stop, run_done)
+pub ruleset run_exits = (head_stop, run_stop, run_done)
 
 -- ---- runs_indexed
 abbrev ids_of : List Run → List ℕ
@@ -187,9 +178,6 @@ runs_begin s from n d h m =
     }
 
 module _ {s : List ℕ} {from n : ℕ} {d t : List ℕ} {k at fault : ℕ} (p : RunsSeen s from n d t k at fault) where
-  pub ids_room : k * 4 ≤ length t
-  ids_room = omega (arith, p.upto, p.room, p.same)
-
   pub runs_end : n ≤ k → RunsIndexed s (read_many run.read n (drop from s)) d t (At at fault)
   runs_end h =
       let z : n - k ≤ 0 = omega arith in
@@ -197,10 +185,10 @@ module _ {s : List ℕ} {from n : ℕ} {d t : List ℕ} {k at fault : ℕ} (p : 
       record { found = record { meaning = rw (e, p.so_far); inside = p.reading.within }; kept = rw e p.rows; same = p.same }
 
   module _ (h : k < n) where
-    pub row_room : k * 4 + 4 ≤ length t
+    row_room : k * 4 + 4 ≤ length t
     row_room = omega (arith, p.room, p.same)
 
-    pub row_same : (x : IndexedRun) {u : List ℕ} → u ≡ splice t (k * 4) (indexed_numbers x) → length u ≡ length d
+    row_same : (x : IndexedRun) {u : List ℕ} → u ≡ splice t (k * 4) (indexed_numbers x) → length u ≡ length d
     row_same x e = spliced_length t (k * 4) (indexed_numbers x) e row_room ∙ p.same
 
     here : 0 < n - k
@@ -238,4 +226,4 @@ module _ {s : List ℕ} {from n : ℕ} {d t : List ℕ} {k at fault : ℕ} (p : 
             rows = rw hu (rw p.count at o);
           }
 
-pub ruleset runs_exits = (runs_begin, ids_room, runs_end, row_room, row_same, runs_stop, runs_onward)
+pub ruleset runs_exits = (runs_begin, runs_end, runs_stop, runs_onward)

@@ -1,6 +1,6 @@
 -- The exits of `image_indexed`, and of the functions on the table that it fills.
 -- Assumes nothing.
-use Prim.Native.Nat.{ℕ, ◌+◌, ◌*◌, ◌≤◌, ◌<◌}
+use Prim.Native.Nat.{ℕ, ◌*◌, ◌≤◌, ◌<◌}
 use native.Mathlib.Omega.{arith}
 use native.Mathlib.Numerals.{add-one}
 use mathlib.Core.Path.{◌≡◌, refl, sym, ap, ◌∙◌}
@@ -30,7 +30,7 @@ use Rattle.manifest.specs.declared.images.Judged.TheVariants.{At, Stop}
 use Rattle.commit_index.specs.declared.Indexed.TheVariants.{At as IndexedAt, Stop as IndexedStop}
 use Rattle.commit_index.specs.declared.runs.IndexedRun.{IndexedRun}
 use Rattle.commit_index.proofs.RunRows.{held_ids}
-use Rattle.manifest.proofs.ImageExits.{Judge, judge, judge_stop, count_most, first_place}
+use Rattle.manifest.proofs.ImageExits.{Judge, judge, judge_stop, count_most}
 
 -- ---- image_indexed
 pub no_image : (s d : List ℕ) {r : CountRead} {k : ℕ} → CountFound s ((up_to 1 64).read (drop 0 s)) r → r ≡ CountStop k → ImageIndexed s d d (IndexedStop k)
@@ -39,9 +39,6 @@ no_image s d {r} {k} f q =
     record { is = ap ended e; same = refl }
 
 module _ (s : List ℕ) {r : CountRead} (f : CountFound s ((up_to 1 64).read (drop 0 s)) r) {n first : ℕ} (q : r ≡ CountAt n first) where
-  pub runs_from : first ≤ length s
-  runs_from = first_place f q
-
   pub runs_room : (d : List ℕ) → 256 ≤ length d → n * 4 ≤ length d
   runs_room d h = omega (arith, count_most f q)
 
@@ -60,9 +57,6 @@ module _ (s : List ℕ) {r : CountRead} (f : CountFound s ((up_to 1 64).read (dr
 
       read : image.read s ≡ got here.value (drop next s)
       read = opened ∙ here.is
-
-      pub next_inside : next ≤ length s
-      next_inside = rw y at x.found.inside
 
       pub left_over : {b : Bool} → b ≡ leb (length s) next → not b ≡ true → ImageIndexed s d t (IndexedStop 1)
       left_over {b} e z =
@@ -84,7 +78,7 @@ module _ (s : List ℕ) {r : CountRead} (f : CountFound s ((up_to 1 64).read (dr
             same = x.same;
           }
 
-pub ruleset image_indexed_exits = (no_image, runs_from, runs_room, runs_stop, next_inside, left_over, image_done)
+pub ruleset image_indexed_exits = (no_image, runs_room, runs_stop, left_over, image_done)
 
 -- ---- indexed_run
 abbrev nothing : Run
@@ -92,9 +86,6 @@ nothing = record { id = 0; views = [] }
 
 module _ {s : List ℕ} {n : ℕ} {t : List ℕ} (p : IndexHold s n t) where
   module _ {k : ℕ} (h : k < n) where
-    pub run_room : k * 4 + 4 ≤ length t
-    run_room = omega (arith, p.rows.long, p.count)
-
     pub run_found : {r : IndexedRun} → r ≡ indexed_of (row_at 4 k t) → IndexedFound s k r
     run_found {r} e =
         let l : k < length (image_of s) = omega (arith, p.count) in
@@ -103,15 +94,8 @@ module _ {s : List ℕ} {n : ℕ} {t : List ℕ} (p : IndexHold s n t) where
         record { run = get_or (image_of s) k nothing; is = rw (add-one k) d; held = x }
 
   -- ---- has_run
-  pub ids_room : n * 4 ≤ length t
-  ids_room = omega (arith, p.rows.long, p.count)
-
   pub run_there : (id : ℕ) {b : Bool} → b ≡ has id (row_ids n t) → b ≡ has id (image_ids s)
   run_there id e =
       let c = p.count in
       let z : row_ids n t ≡ image_ids s = ap (λ m. row_ids m t) c ∙ held_ids s (image_of s) t p.rows in
       e ∙ ap (has id) z
-
-pub ruleset indexed_exits = (run_room, run_found)
-
-pub ruleset has_exits = (ids_room, run_there)

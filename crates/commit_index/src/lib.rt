@@ -22,10 +22,7 @@ fn shared_fault(index: &[usize], n: usize, id: u64) -> u8
     requires { n * 4 ≤ length index.now }
     ensures { result ≡ fault_of (ordered (not (has id (row_ids n index.now)))) }
 {
-    if id_among(index, n, id) {
-        return 6;
-    }
-    8
+    if id_among(index, n, id) { 6 } else { 8 }
 }
 
 // A run, with the number of the first of the checks 4 to 7 that its views fail, or 8; or a stop.
@@ -63,19 +60,15 @@ fn runs_indexed(s: &[u8], from: usize, n: usize, index: &mut [usize]) -> Judged
     requires fact_2 { n * 4 ≤ length index.old }
     ensures { RunsIndexed s.now (read_many run.read n (drop from s.now)) index.old index.new result }
 {
-    let mut seen = 0;
     let mut at = from;
     let mut fault: u8 = 8;
-    while seen < n {
+    for seen in 0..n {
         match run_judged(s, at) {
-            RunJudged::Stop(k) => {
-                return Judged::Stop(k);
-            }
+            RunJudged::Stop(k) => return Judged::Stop(k),
             RunJudged::At { run, fault: worst } => {
                 fault = lesser(fault, lesser(worst, shared_fault(index, seen, run.id)));
                 at = run.past;
                 put_run(index, seen, run);
-                seen += 1;
             }
         }
     }

@@ -33,10 +33,7 @@ pub fn put_run(index: &mut [usize], k: usize, r: IndexedRun)
     ensures { index.new ≡ splice index.old (k * 4) (indexed_numbers r) }
 {
     let at = k * 4;
-    index[at] = r.id as usize;
-    index[at + 1] = r.views;
-    index[at + 2] = r.first;
-    index[at + 3] = r.past;
+    index[at..at + 4].copy_from_slice(&[r.id as usize, r.views, r.first, r.past]);
 }
 
 // Whether an id is one of the first n runs'.
@@ -44,12 +41,10 @@ pub fn id_among(index: &[usize], n: usize, id: u64) -> bool
     requires { n * 4 ≤ length index.now }
     ensures { result ≡ has id (row_ids n index.now) }
 {
-    let mut i = 0;
-    while i < n {
+    for i in 0..n {
         if index[i * 4] == id as usize {
             return true;
         }
-        i += 1;
     }
     false
 }

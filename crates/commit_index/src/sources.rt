@@ -19,13 +19,8 @@ pub fn sources_there(
     requires fact_2 { from + 4 * m ≤ length job.now }
     ensures { result ≡ all (λ k. has k (image_ids image.now)) (ids_in m (drop from job.now)) }
 {
-    let mut left = m;
-    let mut at = from;
-    while 0 < left {
-        if has_run(image, index, n, format::number_there(job, at, 4)) {
-            at += 4;
-            left -= 1;
-        } else {
+    for i in 0..m {
+        if !has_run(image, index, n, format::number_there(job, from + 4 * i, 4)) {
             return false;
         }
     }

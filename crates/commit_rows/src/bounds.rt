@@ -1,8 +1,7 @@
 // Numbers in a row: a bound is three, its kind, place and length.
-ghost use Rattle.std.specs.Prelude.{◌≡◌, [], ◌∷◌, ◌≤◌, ◌+◌, length};
-ghost use Rattle.base.specs.Splice.{splice};
+ghost use Rattle.std.specs.Prelude.{◌≡◌, ◌≤◌, ◌+◌, length};
 ghost use Rattle.format.specs.Range.{kind_of, kind_number};
-ghost use Rattle.commit_rows.specs.Numbers.{span_at, bound_numbers};
+ghost use Rattle.commit_rows.specs.Numbers.{span_at};
 
 use comparable_range::Kind;
 use format::BoundSpan;
@@ -11,13 +10,11 @@ use format::BoundSpan;
 fn kind_of(n: usize) -> Kind
     ensures { result ≡ kind_of n }
 {
-    if n == 0 {
-        return Kind::Unbounded;
+    match n {
+        0 => Kind::Unbounded,
+        1 => Kind::Included,
+        _ => Kind::Excluded,
     }
-    if n == 1 {
-        return Kind::Included;
-    }
-    Kind::Excluded
 }
 
 // The bound in three numbers.
@@ -33,7 +30,7 @@ pub fn bound_at(table: &[usize], at: usize) -> BoundSpan
 }
 
 // The number that stands for a kind.
-fn kind_number(kind: Kind) -> usize
+pub fn kind_number(kind: Kind) -> usize
     ensures { result ≡ kind_number kind }
 {
     match kind {
@@ -41,25 +38,4 @@ fn kind_number(kind: Kind) -> usize
         Kind::Included => 1,
         Kind::Excluded => 2,
     }
-}
-
-pub fn put_bound(table: &mut [usize], at: usize, b: BoundSpan)
-    requires { at + 3 ≤ length table.old }
-    ensures { table.new ≡ splice table.old at (bound_numbers b) }
-{
-    let kind = b.kind;
-    table[at] = kind_number(kind);
-    table[at + 1] = b.at;
-    table[at + 2] = b.len;
-}
-
-// The four numbers at the front of a row.
-pub fn put_four(table: &mut [usize], at: usize, a: usize, b: usize, c: usize, d: usize)
-    requires { at + 4 ≤ length table.old }
-    ensures { table.new ≡ splice table.old at (a ∷ b ∷ c ∷ d ∷ []) }
-{
-    table[at] = a;
-    table[at + 1] = b;
-    table[at + 2] = c;
-    table[at + 3] = d;
 }

@@ -4,7 +4,7 @@ ghost use Rattle.base.specs.Rows.{row_at};
 ghost use Rattle.base.specs.Splice.{splice};
 ghost use Rattle.commit_rows.specs.Numbers.{gap_of, gap_numbers};
 
-use crate::bounds::{bound_at, put_bound};
+use crate::bounds::{bound_at, kind_number};
 use format::BoundSpan;
 use format::span::RangeSpan;
 
@@ -12,9 +12,10 @@ pub fn gap_row(gaps: &[usize], g: usize) -> RangeSpan
     requires { g * 6 + 6 ≤ length gaps.now }
     ensures { result ≡ gap_of (row_at 6 g gaps.now) }
 {
+    let at = g * 6;
     RangeSpan {
-        start: bound_at(gaps, g * 6),
-        end: bound_at(gaps, g * 6 + 3),
+        start: bound_at(gaps, at),
+        end: bound_at(gaps, at + 3),
     }
 }
 
@@ -22,6 +23,13 @@ pub fn put_gap(gaps: &mut [usize], g: usize, start: BoundSpan, end: BoundSpan)
     requires { g * 6 + 6 ≤ length gaps.old }
     ensures { gaps.new ≡ splice gaps.old (g * 6) (gap_numbers start end) }
 {
-    put_bound(gaps, g * 6, start);
-    put_bound(gaps, g * 6 + 3, end);
+    let at = g * 6;
+    gaps[at..at + 6].copy_from_slice(&[
+        kind_number(start.kind),
+        start.at,
+        start.len,
+        kind_number(end.kind),
+        end.at,
+        end.len,
+    ]);
 }

@@ -2,9 +2,9 @@
 ghost use Rattle.std.specs.Prelude.{◌≡◌, ◌≤◌, ◌+◌, ◌*◌, length};
 ghost use Rattle.base.specs.Rows.{row_at};
 ghost use Rattle.base.specs.Splice.{splice};
-ghost use Rattle.commit_rows.specs.Numbers.{bit_of, part_of, part_numbers};
+ghost use Rattle.commit_rows.specs.Numbers.{part_of, part_numbers};
 
-use crate::bounds::{bound_at, put_bound, put_four};
+use crate::bounds::{bound_at, kind_number};
 use format::BoundSpan;
 
 // Whether a part has a durable interval, whether it is completed, how many outputs it has and the place of the first, and
@@ -34,25 +34,21 @@ pub fn part_row(parts: &[usize], k: usize) -> PartSpan
     }
 }
 
-fn bit(b: bool) -> usize
-    ensures { result ≡ bit_of b }
-{
-    if b { 1 } else { 0 }
-}
-
 pub fn put_part(parts: &mut [usize], k: usize, p: PartSpan)
     requires { k * 10 + 10 ≤ length parts.old }
     ensures { parts.new ≡ splice parts.old (k * 10) (part_numbers p) }
 {
     let at = k * 10;
-    put_four(
-        parts,
-        at,
-        bit(p.durable),
-        bit(p.completed),
+    parts[at..at + 10].copy_from_slice(&[
+        usize::from(p.durable),
+        usize::from(p.completed),
         p.outputs,
         p.first,
-    );
-    put_bound(parts, at + 4, p.start);
-    put_bound(parts, at + 7, p.end);
+        kind_number(p.start.kind),
+        p.start.at,
+        p.start.len,
+        kind_number(p.end.kind),
+        p.end.at,
+        p.end.len,
+    ]);
 }

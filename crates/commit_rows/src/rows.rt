@@ -2,9 +2,9 @@
 ghost use Rattle.std.specs.Prelude.{◌≡◌, ◌≤◌, ◌+◌, ◌*◌, length};
 ghost use Rattle.base.specs.Rows.{row_at};
 ghost use Rattle.base.specs.Splice.{splice};
-ghost use Rattle.commit_rows.specs.Numbers.{form_of, cut_number, form_number, row_of, row_numbers};
+ghost use Rattle.commit_rows.specs.Numbers.{form_of, form_number, row_of, row_numbers};
 
-use crate::bounds::{bound_at, put_bound, put_four};
+use crate::bounds::{bound_at, kind_number};
 use comparable_range::Side;
 use format::BoundSpan;
 
@@ -34,39 +34,14 @@ pub struct Row {
 fn form_of(n: usize) -> Form
     ensures { result ≡ form_of n }
 {
-    if n == 0 {
-        return Form::Whole;
-    }
-    if n == 1 {
-        return Form::Output;
-    }
-    if n == 2 {
-        return Form::CutOutput;
-    }
-    if n == 3 {
-        return Form::Cut(Side::First, Side::First);
-    }
-    if n == 4 {
-        return Form::Cut(Side::First, Side::Second);
-    }
-    if n == 5 {
-        return Form::Cut(Side::Second, Side::First);
-    }
-    Form::Cut(Side::Second, Side::Second)
-}
-
-fn cut_number(start: Side, end: Side) -> usize
-    ensures { result ≡ cut_number start end }
-{
-    match start {
-        Side::First => match end {
-            Side::First => 3,
-            Side::Second => 4,
-        },
-        Side::Second => match end {
-            Side::First => 5,
-            Side::Second => 6,
-        },
+    match n {
+        0 => Form::Whole,
+        1 => Form::Output,
+        2 => Form::CutOutput,
+        3 => Form::Cut(Side::First, Side::First),
+        4 => Form::Cut(Side::First, Side::Second),
+        5 => Form::Cut(Side::Second, Side::First),
+        _ => Form::Cut(Side::Second, Side::Second),
     }
 }
 
@@ -77,7 +52,10 @@ fn form_number(form: Form) -> usize
         Form::Whole => 0,
         Form::Output => 1,
         Form::CutOutput => 2,
-        Form::Cut(start, end) => cut_number(start, end),
+        Form::Cut(Side::First, Side::First) => 3,
+        Form::Cut(Side::First, Side::Second) => 4,
+        Form::Cut(Side::Second, Side::First) => 5,
+        Form::Cut(Side::Second, Side::Second) => 6,
     }
 }
 
@@ -102,9 +80,17 @@ pub fn put_row(rows: &mut [usize], k: usize, r: Row)
     ensures { rows.new ≡ splice rows.old (k * 11) (row_numbers r) }
 {
     let at = k * 11;
-    let form = r.form;
-    put_four(rows, at, form_number(form), r.bucket, r.at, r.past);
-    put_bound(rows, at + 4, r.start);
-    put_bound(rows, at + 7, r.end);
-    rows[at + 10] = r.ten;
+    rows[at..at + 11].copy_from_slice(&[
+        form_number(r.form),
+        r.bucket,
+        r.at,
+        r.past,
+        kind_number(r.start.kind),
+        r.start.at,
+        r.start.len,
+        kind_number(r.end.kind),
+        r.end.at,
+        r.end.len,
+        r.ten,
+    ]);
 }

@@ -4,8 +4,6 @@ ghost use Rattle.base.specs.Rows.{row_at};
 ghost use Rattle.base.specs.Splice.{splice};
 ghost use Rattle.commit_rows.specs.Numbers.{run_kind_of, run_kind_number, run_of, run_numbers};
 
-use crate::bounds::put_four;
-
 // A run that stays as it is, one whose views are cut, or the one that is cut and takes the outputs.
 #[derive(Clone, Copy)]
 pub enum RunKind {
@@ -28,13 +26,11 @@ pub struct RunRow {
 fn run_kind_of(n: usize) -> RunKind
     ensures { result ≡ run_kind_of n }
 {
-    if n == 0 {
-        return RunKind::Other;
+    match n {
+        0 => RunKind::Other,
+        1 => RunKind::Source,
+        _ => RunKind::Destination,
     }
-    if n == 1 {
-        return RunKind::Source;
-    }
-    RunKind::Destination
 }
 
 fn run_kind_number(kind: RunKind) -> usize
@@ -67,8 +63,12 @@ pub fn put_run_row(runs: &mut [usize], k: usize, r: RunRow)
     ensures { runs.new ≡ splice runs.old (k * 6) (run_numbers r) }
 {
     let at = k * 6;
-    let kind = r.kind;
-    put_four(runs, at, r.id, r.views, r.first, r.past);
-    runs[at + 4] = run_kind_number(kind);
-    runs[at + 5] = r.rows;
+    runs[at..at + 6].copy_from_slice(&[
+        r.id,
+        r.views,
+        r.first,
+        r.past,
+        run_kind_number(r.kind),
+        r.rows,
+    ]);
 }

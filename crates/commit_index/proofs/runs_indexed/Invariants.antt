@@ -1,11 +1,7 @@
 -- `commit_index::runs_indexed` meets its contract.
 -- Assumes nothing.
 use Rattle.commit_index.proofs.ImageExits.{RunsSeen}
-use Prim.Native.Nat.{◌-◌}
 use Rattle.commit_index.proofs.runs_indexed.Given as goal
 
 abbrev pub invariant-loop-seen : goal.invariant-loop-seen
 invariant-loop-seen l = RunsSeen l.s l.from l.n l.initial.index l.index l.seen l.at l.fault
-
-abbrev pub decreases-loop-seen : goal.decreases-loop-seen
-decreases-loop-seen l = l.n - l.seen

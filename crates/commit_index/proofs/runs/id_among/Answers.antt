@@ -1,4 +1,4 @@
--- `commit_index::id_among` meets its contract.
+-- `commit_index::runs::id_among` meets its contract.
 -- Assumes nothing.
 use Rattle.commit_index.proofs.ImageExits.{among_exits}
 use borrow.Author.Rules.{rules}
@@ -7,23 +7,8 @@ use Rattle.commit_index.proofs.runs.id_among.Goals as goal
 pub loop-i-init : goal.loop-i-init
 loop-i-init c = search (rules, among_exits)
 
-pub overflow_mul-i : goal.overflow_mul-i
-overflow_mul-i c = search (rules, among_exits)
-
-pub offset_bounds-index-i : goal.offset_bounds-index-i
-offset_bounds-index-i c = search (rules, among_exits)
-
-pub bounds-index-i : goal.bounds-index-i
-bounds-index-i c = search (rules, among_exits)
-
 pub returns-then-index-i : goal.returns-then-index-i
 returns-then-index-i c = search (rules, among_exits)
-
-pub overflow_add-i : goal.overflow_add-i
-overflow_add-i c = search (rules, among_exits)
-
-pub loop-i-smaller : goal.loop-i-smaller
-loop-i-smaller c = search (rules, among_exits)
 
 pub loop-i-preserved : goal.loop-i-preserved
 loop-i-preserved c = search (rules, among_exits)
