@@ -130,9 +130,6 @@ module _ {image job ids runs rows order₀ d : List ℕ} {n m : ℕ} {order out 
   pub putting_length : length out ≡ length d
   putting_length = put_length p.put (omega (arith, all_long, p.room))
 
-  pub putting_order : length order ≡ length order₀
-  putting_order = p.order_same
-
   putting_all : n ≤ k → Put d 1 (runs_bytes image job ids (view_rows 0 m rows) (runs_in n runs) (view_rows m (planned (runs_in n runs)) rows)) out to
   putting_all h =
       let e : drop k (runs_in n runs) ≡ [] = drop_of_length-le (runs_in n runs) {i = k} (rw (runs_length_lem n runs) h) in
@@ -140,12 +137,6 @@ module _ {image job ids runs rows order₀ d : List ℕ} {n m : ℕ} {order out 
       put_same p.put (sym a)
 
   module _ (h : k < n) where
-    pub putting_row : k * 6 + 6 ≤ length runs
-    putting_row = omega (arith, p.runs_long)
-
-    pub putting_less : Fits w64 (k + 1)
-    putting_less = omega (arith, p.runs_long, p.runs_fit)
-
     module _ {r : RunRow} (q : r ≡ run_of (row_at 6 k runs)) where
       abbrev left : List RunRow
       left = drop (k + 1) (runs_in n runs)
@@ -259,4 +250,4 @@ module _ {image job ids runs rows order : List ℕ} {c : Counts} {d : List ℕ} 
       pub image_same : length out ≡ length d
       image_same = putting_length p ∙ put_length count_put (first_room d 0 count every image_room)
 
-pub ruleset image_exits = (count_room, putting_begin, putting_length, putting_order, putting_row, putting_less, putting_fits, putting_more, image_put, image_same)
+pub ruleset image_exits = (count_room, putting_begin, putting_length, putting_fits, putting_more, image_put, image_same)

@@ -31,10 +31,6 @@ time_is s at e = let n : at + 6 - at ≡ 6 = omega arith in rw (e, n) (take-take
 read_is : (s : List ℕ) (at : ℕ) {id : List ℕ} → id ≡ take 16 (drop at s) → id ≡ between s at (at + 16)
 read_is s at e = let n : at + 16 - at ≡ 16 = omega arith in rw n e
 
--- ---- put_id
-pub kept_put : (d : List ℕ) (to : ℕ) (id : List ℕ) {e : List ℕ} → length id ≡ 16 → e ≡ splice d to id → Put d to id e (to + 16)
-kept_put d to id h p = put_here d to id p (omega (arith, h))
-
 -- ---- put_new_id
 pub time_inside : (old : List ℕ) → length old ≡ 16 → 6 ≤ length old
 time_inside old h = omega (arith, h)

@@ -5,7 +5,7 @@ use native.Mathlib.Omega.{arith}
 use mathlib.Core.Path.{◌≡◌, sym, ap, ◌∙◌}
 use mathlib.Core.List.{List, [], ◌∷◌, ◌++◌, append-nil, flat_map}
 use lib.ListN.{length, get_or, take, drop, length-append, take-append-drop}
-use lib.Seq.{take_all, get_or-take, length-take-le}
+use lib.Seq.{take_all}
 use mir.Val.{Fits}
 use mir.Syntax.{w64}
 use Rattle.base.specs.Lists.{All, flat_map_append, flat_map_map}
@@ -130,36 +130,5 @@ module _ {image job ids t : List ℕ} (from n : ℕ) {d : List ℕ} {to : ℕ} {
 
 pub ruleset rows_exits = (rows_begin, writing_length, rows_put, rows_row, rows_fits, rows_inside, rows_room, rows_more)
 
--- ---- put_in_order: the numbers are the first n of order
-module _ {image job ids t : List ℕ} (order : List ℕ) (n : ℕ) {d : List ℕ} {to : ℕ} {out : List ℕ} {i past : ℕ} (p : Writing image job ids t (take n order) d to out i past) where
-  module _ (l : n ≤ length order) where
-    order_long : length (take n order) ≡ n
-    order_long = length-take-le n order l
-
-    pub order_put : n ≤ i → Put d to (numbered_bytes image job ids t (take n order)) out past
-    order_put h = writing_all p (rw order_long h)
-
-    module _ (h : i < n) where
-      in_take : i < length (take n order)
-      in_take = rw order_long h
-
-      number_at : get_or order i 0 ≡ get_or (take n order) i 0
-      number_at = sym (get_or-take n order i 0 h)
-
-      pub order_in : i < length order
-      order_in = omega arith
-
-      pub order_row : get_or order i 0 * 11 + 11 ≤ length t
-      order_row = writing_row p in_take number_at
-
-      module _ {r : Row} (q : r ≡ row_of (row_at 11 (get_or order i 0) t)) where
-        pub order_inside : RowInside image job ids r
-        order_inside = writing_inside p in_take number_at q
-
-        pub order_room : past + length (row_bytes image job ids r) ≤ length out
-        order_room = writing_room p in_take number_at q
-
-        pub order_more : {out' : List ℕ} {past' : ℕ} → Put out past (row_bytes image job ids r) out' past' → Writing image job ids t (take n order) d to out' (i + 1) past'
-        order_more u = writing_more p in_take number_at q u
-
-pub ruleset order_exits = (writing_begin, writing_length, order_put, order_in, order_row, order_inside, order_room, order_more)
+-- ---- put_in_order: the numbers are a list's
+pub ruleset order_exits = (writing_begin, writing_length, writing_all, writing_row, writing_inside, writing_room, writing_more)

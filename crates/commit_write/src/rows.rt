@@ -1,5 +1,5 @@
 // The bytes of rows, one row after another.
-ghost use Rattle.std.specs.Prelude.{◌≤◌, ◌+◌, length, take};
+ghost use Rattle.std.specs.Prelude.{◌≤◌, ◌+◌, length};
 ghost use Rattle.base.specs.Lists.{All};
 ghost use Rattle.range_write.specs.Put.{Put};
 ghost use Rattle.commit_write.specs.Rows.{view_rows, view_bytes, numbered_bytes, RowThere, RowsThere};
@@ -22,37 +22,31 @@ pub fn put_rows<'a>(
     ensures { Put out.old to (view_bytes image.now job.now ids.now (view_rows from n rows.now)) out.new result }
 {
     let mut past = to;
-    let mut i = 0;
-    while i < n {
+    for i in 0..n {
         let row = commit_rows::row_at(rows, from + i);
         past = put_view(image, job, ids, row, out, past);
-        i += 1;
     }
     past
 }
 
-// The rows whose numbers are the first n of a list.
+// The rows whose numbers a list has.
 pub fn put_in_order<'a>(
     image: &'a [u8],
     job: &'a [u8],
     ids: &[u8],
     rows: &[usize],
     order: &[usize],
-    n: usize,
     out: &mut [u8],
     to: usize,
 ) -> usize
-    requires n_in_bounds_1 { n ≤ length order.now }
-    requires n_in_bounds_2 { All (RowThere image.now job.now ids.now rows.now) (take n order.now) }
-    requires order_in_bounds { to + length (numbered_bytes image.now job.now ids.now rows.now (take n order.now)) ≤ length out.old }
-    ensures { Put out.old to (numbered_bytes image.now job.now ids.now rows.now (take n order.now)) out.new result }
+    requires fact_1 { All (RowThere image.now job.now ids.now rows.now) order.now }
+    requires fact_2 { to + length (numbered_bytes image.now job.now ids.now rows.now order.now) ≤ length out.old }
+    ensures { Put out.old to (numbered_bytes image.now job.now ids.now rows.now order.now) out.new result }
 {
     let mut past = to;
-    let mut i = 0;
-    while i < n {
-        let row = commit_rows::row_at(rows, order[i]);
+    for &k in order {
+        let row = commit_rows::row_at(rows, k);
         past = put_view(image, job, ids, row, out, past);
-        i += 1;
     }
     past
 }

@@ -51,8 +51,7 @@ fn put_run<'a>(
     ensures put { Put out.old at.to (run_at image.now job.now ids.now rows.now r at) out.new result }
     ensures order_len_unchanged { length order.new ≡ length order.old }
 {
-    let kind = r.kind;
-    match kind {
+    match r.kind {
         RunKind::Other => put_part(image, r.first - 6, r.past, out, at.to),
         RunKind::Source => {
             let to = put_head(out, at.to, r.id, r.rows);
@@ -62,7 +61,7 @@ fn put_run<'a>(
             let n = at.outputs + r.rows;
             let to = put_head(out, at.to, r.id, n);
             place_rows(rows, at.outputs, at.row, r.rows, order);
-            put_in_order(image, job, ids, rows, order, n, out, to)
+            put_in_order(image, job, ids, rows, &order[..n], out, to)
         }
     }
 }
@@ -84,10 +83,9 @@ pub fn put_image<'a>(
     let n = c.runs;
     let m = c.outputs;
     format::put_number(out, 0, n as u64, 1);
-    let mut k = 0;
     let mut row = m;
     let mut to = 1;
-    while k < n {
+    for k in 0..n {
         let r = commit_rows::run_row(runs, k);
         let at = Reached {
             outputs: m,
@@ -96,6 +94,5 @@ pub fn put_image<'a>(
         };
         to = put_run(image, job, ids, rows, order, r, at, out);
         row += r.rows;
-        k += 1;
     }
 }

@@ -28,8 +28,7 @@ fn put_id(id: ViewId, out: &mut [u8], to: usize) -> usize
     requires { to + length id.0 ≤ length out.old }
     ensures { Put out.old to id.0 out.new result }
 {
-    let bytes = id.0;
-    format::put(out, to, &bytes);
+    format::put(out, to, &id.0);
     to + 16
 }
 
@@ -68,13 +67,9 @@ fn put_visible<'a>(
     requires r_in_bounds { to + length (128 ∷ write_range (sided_range start end image.now job.now r)) ≤ length out.old }
     ensures { Put out.old to (128 ∷ write_range (sided_range start end image.now job.now r)) out.new result }
 {
-    let x = r.start;
-    let y = r.end;
-    let ks = x.kind;
-    let ke = y.kind;
-    let s = slice_of(start, image, job);
-    let e = slice_of(end, image, job);
-    put_flagged(ks, key_of(s, x), ke, key_of(e, y), out, to)
+    let s = key_of(slice_of(start, image, job), r.start);
+    let e = key_of(slice_of(end, image, job), r.end);
+    put_flagged(r.start.kind, s, r.end.kind, e, out, to)
 }
 
 // An output of the job under the id of its table.
@@ -145,8 +140,7 @@ pub fn put_view<'a>(
     requires fact_2 { to + length (row_bytes image.now job.now ids.now r) ≤ length out.old }
     ensures { Put out.old to (row_bytes image.now job.now ids.now r) out.new result }
 {
-    let form = r.form;
-    match form {
+    match r.form {
         Form::Whole => put_part(image, r.at, r.past, out, to),
         Form::Output => put_output(job, r.at, r.past, out, to),
         Form::CutOutput => put_cut_output(image, job, ids, r, out, to),

@@ -13,20 +13,14 @@ overflow_add-from c = search (rules, rows_exits)
 pub row_at-row-requires : goal.row_at-row-requires
 row_at-row-requires c = search (rules, rows_exits)
 
-pub put_view-past-requires : goal.put_view-past-requires
-put_view-past-requires c = search (rules, rows_exits)
+pub put_view-past-requires-clause-fact_1 : goal.put_view-past-requires-clause-fact_1
+put_view-past-requires-clause-fact_1 c = search (rules, rows_exits)
 
-pub overflow_add-i : goal.overflow_add-i
-overflow_add-i c = search (rules, rows_exits)
-
-pub loop-i-smaller : goal.loop-i-smaller
-loop-i-smaller c = search (rules, rows_exits)
+pub put_view-past-requires-clause-fact_2 : goal.put_view-past-requires-clause-fact_2
+put_view-past-requires-clause-fact_2 c = search (rules, rows_exits)
 
 pub loop-i-preserved : goal.loop-i-preserved
 loop-i-preserved c = search (rules, rows_exits)
-
-pub shape_of-out : goal.shape_of-out
-shape_of-out c = search (rules, rows_exits)
 
 pub returns : goal.returns
 returns c = search (rules, rows_exits)

@@ -10,29 +10,14 @@ put_number-requires c = search (rules, image_exits)
 pub loop-k-init : goal.loop-k-init
 loop-k-init c = search (rules, image_exits)
 
-pub run_row-r-requires : goal.run_row-r-requires
-run_row-r-requires c = search (rules, image_exits)
-
 pub put_run-to-requires : goal.put_run-to-requires
 put_run-to-requires c = putting_writable c.loop-k.invariant (search rules) c.run_row-r.ensures
 
 pub overflow_add-row : goal.overflow_add-row
 overflow_add-row c = search (rules, image_exits)
 
-pub overflow_add-k : goal.overflow_add-k
-overflow_add-k c = search (rules, image_exits)
-
-pub loop-k-smaller : goal.loop-k-smaller
-loop-k-smaller c = search (rules, image_exits)
-
 pub loop-k-preserved : goal.loop-k-preserved
 loop-k-preserved c = search (rules, image_exits)
-
-pub shape_of-order : goal.shape_of-order
-shape_of-order c = search (rules, image_exits)
-
-pub shape_of-out : goal.shape_of-out
-shape_of-out c = search (rules, image_exits)
 
 pub returns : goal.returns
 returns c = search (rules, image_exits)

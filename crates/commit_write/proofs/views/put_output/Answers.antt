@@ -4,9 +4,6 @@ use Rattle.commit_write.proofs.ViewExits.{output_exits}
 use borrow.Author.Rules.{rules}
 use Rattle.commit_write.proofs.views.put_output.Goals as goal
 
-pub published_id-id-requires : goal.published_id-id-requires
-published_id-id-requires c = search (rules, output_exits)
-
 pub put_id-table-requires : goal.put_id-table-requires
 put_id-table-requires c =
     let i = c.published_id-id.ensures in
@@ -21,14 +18,6 @@ pub put_byte-requires : goal.put_byte-requires
 put_byte-requires c =
     let i = c.published_id-id.ensures in
     search (rules, output_exits, i)
-
-pub overflow_add-result : goal.overflow_add-result
-overflow_add-result c =
-    let i = c.published_id-id.ensures in
-    search (rules, output_exits, i)
-
-pub shape_of-out : goal.shape_of-out
-shape_of-out c = search (rules, output_exits)
 
 pub returns : goal.returns
 returns c =
