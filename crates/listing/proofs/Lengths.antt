@@ -30,17 +30,7 @@ use Rattle.listing.specs.Listing.{start_text, end_text, names, bounds_text, line
 key_length : (s : List ℕ) (b : BoundSpan) → BoundInside s b → length (take b.len (drop b.at s)) ≡ b.len
 key_length s b h = length-take-le b.len (drop b.at s) (rw length-drop (omega arith))
 
--- ---- start_len, end_len
-module _ (s : List ℕ) (b : BoundSpan) (h : BoundInside s b) (l : length s ≤ 65536) where
-  pub key_fits : Fits w64 (2 * b.len)
-  key_fits = omega (arith, h)
-
-  pub start_fits : Fits w64 (1 + 2 * b.len)
-  start_fits = omega (arith, h)
-
-  pub end_fits : Fits w64 (2 * b.len + 1)
-  end_fits = omega (arith, h)
-
+-- ---- bound_len
 hex_key : (s : List ℕ) (b : BoundSpan) → BoundInside s b → length (hex (take b.len (drop b.at s))) ≡ 2 * b.len
 hex_key s b h = hex_length (take b.len (drop b.at s)) ∙ ap (λ n. 2 * n) (key_length s b h)
 
@@ -61,17 +51,15 @@ module _ (s : List ℕ) (b : BoundSpan) where
   unfolding end_text
   end_free e = rw e
 
-  pub end_in : b.kind ≡ Included → BoundInside s b → 2 * b.len + 1 ≡ length (end_text (bound_in s b))
+  pub end_in : b.kind ≡ Included → BoundInside s b → 1 + 2 * b.len ≡ length (end_text (bound_in s b))
   unfolding end_text
   end_in e h = rw (e, length-append) (omega (arith, hex_key s b h))
 
-  pub end_ex : b.kind ≡ Excluded → BoundInside s b → 2 * b.len + 1 ≡ length (end_text (bound_in s b))
+  pub end_ex : b.kind ≡ Excluded → BoundInside s b → 1 + 2 * b.len ≡ length (end_text (bound_in s b))
   unfolding end_text
   end_ex e h = rw (e, length-append) (omega (arith, hex_key s b h))
 
-pub ruleset start_exits = (key_fits, start_fits, start_free, start_in, start_ex)
-
-pub ruleset end_exits = (key_fits, end_fits, end_free, end_in, end_ex)
+pub ruleset bound_exits = (start_free, start_in, start_ex, end_free, end_in, end_ex)
 
 -- ---- no text of a bound is longer than this
 start_most : (s : List ℕ) (b : BoundSpan) → BoundInside s b → length s ≤ 65536 → length (start_text (bound_in s b)) ≤ 131073

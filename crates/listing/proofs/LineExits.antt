@@ -1,7 +1,6 @@
 -- The exits of `put_start`, `put_end` and `put_line`: a line is put word by word.
 -- Assumes nothing.
-use Prim.Native.Nat.{ℕ, ◌+◌, ◌≤◌, ◌<◌}
-use native.Mathlib.Omega.{arith}
+use Prim.Native.Nat.{ℕ, ◌+◌, ◌≤◌}
 use mathlib.Core.Path.{◌≡◌, refl, sym, ap, ◌∙◌}
 use mathlib.Core.List.{List, [], ◌∷◌, ◌++◌, append_assoc}
 use lib.ListN.{length, take, drop}
@@ -36,107 +35,42 @@ module _ (d : List ℕ) (at : ℕ) (text x y : List ℕ) (e : text ≡ x ++ y) (
     rest_past : {z : ℕ} → z ≡ to + length y → z ≡ at + length text
     rest_past q = both_past d at x y room_of p t q ∙ ap (λ l. at + length l) (sym e)
 
--- ---- put_start
-module _ (s d : List ℕ) (b : BoundSpan) (at : ℕ) (room : at + length (spaced (start_text (bound_in s b))) ≤ length d) where
-  pub dash_room : b.kind ≡ Unbounded → at + 2 ≤ length d
+-- ---- put_opened: a bracket, and a word after it
+module _ (d : List ℕ) (at bracket : ℕ) (k : List ℕ) (room : at + length (bracket ∷ spaced (hex k)) ≤ length d) {f : List ℕ} (p : f ≡ splice d at (bracket ∷ [])) where
+  pub opened_put : {g : List ℕ} → g ≡ splice f (at + 1) (spaced (hex k)) → g ≡ splice d at (bracket ∷ spaced (hex k))
+  opened_put q = rest_put d at (bracket ∷ spaced (hex k)) (bracket ∷ []) (spaced (hex k)) refl room p refl q
+
+-- ---- put_start, by the kind of the bound; k is its key
+module _ (s : List ℕ) (b : BoundSpan) where
+  pub start_dash : b.kind ≡ Unbounded → spaced (start_text (bound_in s b)) ≡ 45 ∷ 32 ∷ []
   unfolding start_text
-  dash_room e = rw e at room
+  start_dash e = rw e
 
-  pub dash_past : {r : ℕ} → b.kind ≡ Unbounded → r ≡ at + 2 → r ≡ at + length (spaced (start_text (bound_in s b)))
+  pub start_square : {k : List ℕ} → b.kind ≡ Included → k ≡ take b.len (drop b.at s) → spaced (start_text (bound_in s b)) ≡ 91 ∷ spaced (hex k)
   unfolding start_text
-  dash_past e q = q ∙ rw e
+  start_square e q = rw (e, q)
 
-  pub dash_put : {f : List ℕ} → b.kind ≡ Unbounded → f ≡ splice d at (45 ∷ 32 ∷ []) → f ≡ splice d at (spaced (start_text (bound_in s b)))
+  pub start_round : {k : List ℕ} → b.kind ≡ Excluded → k ≡ take b.len (drop b.at s) → spaced (start_text (bound_in s b)) ≡ 40 ∷ spaced (hex k)
   unfolding start_text
-  dash_put e q = q ∙ rw e
+  start_round e q = rw (e, q)
 
-  bracket : {k : List ℕ} (c : ℕ) → k ≡ take b.len (drop b.at s) → start_text (bound_in s b) ≡ c ∷ hex (take b.len (drop b.at s)) → spaced (start_text (bound_in s b)) ≡ (c ∷ []) ++ spaced (hex k)
-  bracket c q e = ap spaced e ∙ rw q
+pub ruleset start_put_exits = (start_dash, start_square, start_round)
 
-  in_text : b.kind ≡ Included → start_text (bound_in s b) ≡ 91 ∷ hex (take b.len (drop b.at s))
-  unfolding start_text
-  in_text e = rw e
-
-  ex_text : b.kind ≡ Excluded → start_text (bound_in s b) ≡ 40 ∷ hex (take b.len (drop b.at s))
-  unfolding start_text
-  ex_text e = rw e
-
-  pub in_room : b.kind ≡ Included → at < length d
-  in_room e = omega (arith, piece_room d at (spaced (start_text (bound_in s b))) (91 ∷ []) (spaced (hex (take b.len (drop b.at s)))) (bracket 91 refl (in_text e)) room)
-
-  pub ex_room : b.kind ≡ Excluded → at < length d
-  ex_room e = omega (arith, piece_room d at (spaced (start_text (bound_in s b))) (40 ∷ []) (spaced (hex (take b.len (drop b.at s)))) (bracket 40 refl (ex_text e)) room)
-
-  module _ {f k : List ℕ} (q : k ≡ take b.len (drop b.at s)) where
-    pub in_key_room : b.kind ≡ Included → f ≡ splice d at (91 ∷ []) → at + 1 + length (spaced (hex k)) ≤ length f
-    in_key_room e p = rest_room d at (spaced (start_text (bound_in s b))) (91 ∷ []) (spaced (hex k)) (bracket 91 q (in_text e)) room p refl
-
-    pub in_past : {r : ℕ} → b.kind ≡ Included → f ≡ splice d at (91 ∷ []) → r ≡ at + 1 + length (spaced (hex k)) → r ≡ at + length (spaced (start_text (bound_in s b)))
-    in_past e p z = rest_past d at (spaced (start_text (bound_in s b))) (91 ∷ []) (spaced (hex k)) (bracket 91 q (in_text e)) room p refl z
-
-    pub in_put : {g : List ℕ} → b.kind ≡ Included → f ≡ splice d at (91 ∷ []) → g ≡ splice f (at + 1) (spaced (hex k)) → g ≡ splice d at (spaced (start_text (bound_in s b)))
-    in_put e p z = rest_put d at (spaced (start_text (bound_in s b))) (91 ∷ []) (spaced (hex k)) (bracket 91 q (in_text e)) room p refl z
-
-    pub ex_key_room : b.kind ≡ Excluded → f ≡ splice d at (40 ∷ []) → at + 1 + length (spaced (hex k)) ≤ length f
-    ex_key_room e p = rest_room d at (spaced (start_text (bound_in s b))) (40 ∷ []) (spaced (hex k)) (bracket 40 q (ex_text e)) room p refl
-
-    pub ex_past : {r : ℕ} → b.kind ≡ Excluded → f ≡ splice d at (40 ∷ []) → r ≡ at + 1 + length (spaced (hex k)) → r ≡ at + length (spaced (start_text (bound_in s b)))
-    ex_past e p z = rest_past d at (spaced (start_text (bound_in s b))) (40 ∷ []) (spaced (hex k)) (bracket 40 q (ex_text e)) room p refl z
-
-    pub ex_put : {g : List ℕ} → b.kind ≡ Excluded → f ≡ splice d at (40 ∷ []) → g ≡ splice f (at + 1) (spaced (hex k)) → g ≡ splice d at (spaced (start_text (bound_in s b)))
-    ex_put e p z = rest_put d at (spaced (start_text (bound_in s b))) (40 ∷ []) (spaced (hex k)) (bracket 40 q (ex_text e)) room p refl z
-
-pub ruleset start_put_exits = (dash_room, dash_past, dash_put, in_room, ex_room, in_key_room, in_past, in_put, ex_key_room, ex_past, ex_put)
-
--- ---- put_end
-module _ (s d : List ℕ) (b : BoundSpan) (at : ℕ) (room : at + length (closed (end_text (bound_in s b))) ≤ length d) where
-  pub end_dash_room : b.kind ≡ Unbounded → at + 2 ≤ length d
+-- ---- put_end, by the kind of the bound
+module _ (s : List ℕ) (b : BoundSpan) where
+  pub end_dash : b.kind ≡ Unbounded → closed (end_text (bound_in s b)) ≡ 45 ∷ 10 ∷ []
   unfolding end_text
-  end_dash_room e = rw e at room
+  end_dash e = rw e
 
-  pub end_dash_past : {r : ℕ} → b.kind ≡ Unbounded → r ≡ at + 2 → r ≡ at + length (closed (end_text (bound_in s b)))
+  pub end_square : {k : List ℕ} → b.kind ≡ Included → k ≡ take b.len (drop b.at s) → closed (end_text (bound_in s b)) ≡ hex k ++ (93 ∷ 10 ∷ [])
   unfolding end_text
-  end_dash_past e q = q ∙ rw e
+  end_square e q = rw (e, q) (append_assoc (hex (take b.len (drop b.at s))) (93 ∷ []) (10 ∷ []))
 
-  pub end_dash_put : {f : List ℕ} → b.kind ≡ Unbounded → f ≡ splice d at (45 ∷ 10 ∷ []) → f ≡ splice d at (closed (end_text (bound_in s b)))
+  pub end_round : {k : List ℕ} → b.kind ≡ Excluded → k ≡ take b.len (drop b.at s) → closed (end_text (bound_in s b)) ≡ hex k ++ (41 ∷ 10 ∷ [])
   unfolding end_text
-  end_dash_put e q = q ∙ rw e
+  end_round e q = rw (e, q) (append_assoc (hex (take b.len (drop b.at s))) (41 ∷ []) (10 ∷ []))
 
-  module _ {k : List ℕ} (q : k ≡ take b.len (drop b.at s)) where
-    in_end : b.kind ≡ Included → closed (end_text (bound_in s b)) ≡ hex k ++ (93 ∷ 10 ∷ [])
-    unfolding end_text
-    in_end e = rw (e, q) (append_assoc (hex (take b.len (drop b.at s))) (93 ∷ []) (10 ∷ []))
-
-    ex_end : b.kind ≡ Excluded → closed (end_text (bound_in s b)) ≡ hex k ++ (41 ∷ 10 ∷ [])
-    unfolding end_text
-    ex_end e = rw (e, q) (append_assoc (hex (take b.len (drop b.at s))) (41 ∷ []) (10 ∷ []))
-
-    pub in_hex_room : b.kind ≡ Included → at + length (hex k) ≤ length d
-    in_hex_room e = piece_room d at (closed (end_text (bound_in s b))) (hex k) (93 ∷ 10 ∷ []) (in_end e) room
-
-    pub ex_hex_room : b.kind ≡ Excluded → at + length (hex k) ≤ length d
-    ex_hex_room e = piece_room d at (closed (end_text (bound_in s b))) (hex k) (41 ∷ 10 ∷ []) (ex_end e) room
-
-    module _ {f : List ℕ} {to : ℕ} (p : f ≡ splice d at (hex k)) (t : to ≡ at + length (hex k)) where
-      pub in_two_room : b.kind ≡ Included → to + 2 ≤ length f
-      in_two_room e = rest_room d at (closed (end_text (bound_in s b))) (hex k) (93 ∷ 10 ∷ []) (in_end e) room p t
-
-      pub ex_two_room : b.kind ≡ Excluded → to + 2 ≤ length f
-      ex_two_room e = rest_room d at (closed (end_text (bound_in s b))) (hex k) (41 ∷ 10 ∷ []) (ex_end e) room p t
-
-      pub in_end_past : {r : ℕ} → b.kind ≡ Included → r ≡ to + 2 → r ≡ at + length (closed (end_text (bound_in s b)))
-      in_end_past e z = rest_past d at (closed (end_text (bound_in s b))) (hex k) (93 ∷ 10 ∷ []) (in_end e) room p t z
-
-      pub ex_end_past : {r : ℕ} → b.kind ≡ Excluded → r ≡ to + 2 → r ≡ at + length (closed (end_text (bound_in s b)))
-      ex_end_past e z = rest_past d at (closed (end_text (bound_in s b))) (hex k) (41 ∷ 10 ∷ []) (ex_end e) room p t z
-
-      pub in_end_put : {g : List ℕ} → b.kind ≡ Included → g ≡ splice f to (93 ∷ 10 ∷ []) → g ≡ splice d at (closed (end_text (bound_in s b)))
-      in_end_put e z = rest_put d at (closed (end_text (bound_in s b))) (hex k) (93 ∷ 10 ∷ []) (in_end e) room p t z
-
-      pub ex_end_put : {g : List ℕ} → b.kind ≡ Excluded → g ≡ splice f to (41 ∷ 10 ∷ []) → g ≡ splice d at (closed (end_text (bound_in s b)))
-      ex_end_put e z = rest_put d at (closed (end_text (bound_in s b))) (hex k) (41 ∷ 10 ∷ []) (ex_end e) room p t z
-
-pub ruleset end_put_exits = (end_dash_room, end_dash_past, end_dash_put, in_hex_room, ex_hex_room, in_two_room, ex_two_room, in_end_past, ex_end_past, in_end_put, ex_end_put)
+pub ruleset end_put_exits = (end_dash, end_square, end_round)
 
 -- ---- put_names
 module _ (d : List ℕ) (at id place : ℕ) (k : List ℕ) (room : at + length (names id place k) ≤ length d) where

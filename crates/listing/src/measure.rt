@@ -14,49 +14,37 @@ use format::BoundSpan;
 use format::span::RangeSpan;
 use records::ViewSpan;
 
-fn start_len(s: &[u8], b: BoundSpan) -> usize
+// As long as a start is a bound's text at an end: a dash, or a bracket and two digits for each byte of the key.
+#[tactic(auto, using(crate::proofs::Lengths::bound_exits))]
+fn bound_len(s: &[u8], b: BoundSpan) -> usize
     requires fact_1 { length s.now ≤ 65536 }
     requires fact_2 { BoundInside s.now b }
-    ensures { result ≡ length (start_text (bound_in s.now b)) }
+    ensures start { result ≡ length (start_text (bound_in s.now b)) }
+    ensures end { result ≡ length (end_text (bound_in s.now b)) }
 {
-    let kind = b.kind;
-    match kind {
+    match b.kind {
         Kind::Unbounded => 1,
-        Kind::Included => 1 + 2 * b.len,
-        Kind::Excluded => 1 + 2 * b.len,
-    }
-}
-
-fn end_len(s: &[u8], b: BoundSpan) -> usize
-    requires fact_1 { length s.now ≤ 65536 }
-    requires fact_2 { BoundInside s.now b }
-    ensures { result ≡ length (end_text (bound_in s.now b)) }
-{
-    let kind = b.kind;
-    match kind {
-        Kind::Unbounded => 1,
-        Kind::Included => 2 * b.len + 1,
-        Kind::Excluded => 2 * b.len + 1,
+        Kind::Included | Kind::Excluded => 1 + 2 * b.len,
     }
 }
 
 // The line of a view: two numbers, an id of 16 bytes, two bounds, and five bytes after them.
+#[tactic(auto, using(crate::proofs::Lengths::line_exits))]
 fn line_len(s: &[u8], v: ViewSpan, id: u64, place: usize) -> usize
     requires fact_1 { length s.now ≤ 65536 }
     requires fact_2 { ViewInside s.now v }
     ensures { (result ≡ length (line id place (view_in s.now v))) × (result ≤ 262223) }
 {
     let e = manifest::effective(s, v);
-    let start = e.start;
-    let end = e.end;
     text::decimal_len(id)
         + text::decimal_len(place as u64)
         + 37
-        + start_len(s, start)
-        + end_len(s, end)
+        + bound_len(s, e.start)
+        + bound_len(s, e.end)
 }
 
 // The lines of n views of a run.
+#[tactic(auto, using(crate::proofs::Loops::views_len_exits))]
 fn views_len(s: &[u8], from: usize, n: usize, id: u64) -> Reached
     requires fact_1 { length s.now ≤ 65536 }
     requires fact_2 { from ≤ length s.now }
@@ -65,19 +53,18 @@ fn views_len(s: &[u8], from: usize, n: usize, id: u64) -> Reached
     ensures reached_past { ReachedPast s.now (read_many view.read n (drop from s.now)) 0 (lines id 0 (values_of (read_many view.read n (drop from s.now)))) result }
     ensures to_bound { result.to ≤ 268516352 }
 {
-    let mut place = 0;
     let mut at = from;
     let mut to = 0;
-    while place < n {
+    for place in 0..n {
         let v = records::view_there(s, at);
         to += line_len(s, v, id, place);
         at = v.past;
-        place += 1;
     }
     Reached { next: at, to }
 }
 
 // The lines of n runs.
+#[tactic(auto, using(crate::proofs::Loops::runs_len_exits))]
 fn runs_len(s: &[u8], from: usize, n: usize) -> usize
     requires fact_1 { length s.now ≤ 65536 }
     requires fact_2 { from ≤ length s.now }
@@ -86,20 +73,19 @@ fn runs_len(s: &[u8], from: usize, n: usize) -> usize
     ensures value { result ≡ length (run_lines (values_of (read_many run.read n (drop from s.now)))) }
     ensures upper_bound { result ≤ 17185046528 }
 {
-    let mut seen = 0;
     let mut at = from;
     let mut to = 0;
-    while seen < n {
+    for _ in 0..n {
         let run = records::run_there(s, at);
         let r = views_len(s, run.first, run.views, run.id);
         to += r.to;
         at = r.next;
-        seen += 1;
     }
     to
 }
 
 // The listing of an image that is there.
+#[tactic(auto, using(crate::proofs::WholeListing::listing_len_exits))]
 pub fn listing_len(s: &[u8]) -> usize
     requires fact_1 { length s.now ≤ 65536 }
     requires fact_2 { T (is_got (image.read s.now)) }

@@ -1,5 +1,5 @@
 // The listing, written into a lent buffer at a place. The caller has measured: what is put fits.
-ghost use Rattle.std.specs.Prelude.{◌≡◌, ◌≤◌, ◌+◌, T, length, drop, ◌∷◌, []};
+ghost use Rattle.std.specs.Prelude.{◌≡◌, ◌≤◌, ◌+◌, T, length, drop, ◌∷◌, ◌++◌, []};
 ghost use Rattle.base.specs.Outcome.{over};
 ghost use Rattle.base.specs.Splice.{splice};
 ghost use Rattle.text.specs.Text.{decimal, hex};
@@ -44,54 +44,63 @@ fn put_two(out: &mut [u8], at: usize, a: u8, b: u8) -> usize
     ensures value { result ≡ at + 2 }
     ensures out_after { out.new ≡ splice out.old at (a ∷ b ∷ []) }
 {
-    format::put_byte(out, at, a);
-    format::put_byte(out, at + 1, b);
+    format::put(out, at, &[a, b]);
     at + 2
 }
 
+// A bracket, a start's key and a space.
+#[tactic(auto, using(crate::proofs::LineExits::opened_put))]
+fn put_opened(out: &mut [u8], at: usize, bracket: u8, key: &[u8]) -> usize
+    requires { at + length (bracket ∷ spaced (hex key.now)) ≤ length out.old }
+    ensures value { result ≡ at + length (bracket ∷ spaced (hex key.now)) }
+    ensures out_after { out.new ≡ splice out.old at (bracket ∷ spaced (hex key.now)) }
+{
+    format::put_byte(out, at, bracket);
+    put_bytes(out, at + 1, key)
+}
+
+// An end's key, a bracket and a newline.
+fn put_closed(out: &mut [u8], at: usize, key: &[u8], bracket: u8) -> usize
+    requires { at + length (hex key.now ++ bracket ∷ 10 ∷ []) ≤ length out.old }
+    ensures value { result ≡ at + length (hex key.now ++ bracket ∷ 10 ∷ []) }
+    ensures out_after { out.new ≡ splice out.old at (hex key.now ++ bracket ∷ 10 ∷ []) }
+{
+    let end = text::put_hex(out, at, key);
+    put_two(out, end, bracket, b'\n')
+}
+
 // A start and a space.
+#[tactic(auto, using(crate::proofs::LineExits::start_put_exits))]
 fn put_start(s: &[u8], b: BoundSpan, out: &mut [u8], at: usize) -> usize
     requires fact_1 { BoundInside s.now b }
     requires fact_2 { at + length (spaced (start_text (bound_in s.now b))) ≤ length out.old }
     ensures value { result ≡ at + length (spaced (start_text (bound_in s.now b))) }
     ensures out_after { out.new ≡ splice out.old at (spaced (start_text (bound_in s.now b))) }
 {
-    let kind = b.kind;
-    match kind {
+    match b.kind {
         Kind::Unbounded => put_two(out, at, b'-', b' '),
-        Kind::Included => {
-            format::put_byte(out, at, b'[');
-            put_bytes(out, at + 1, format::key_of(s, b))
-        }
-        Kind::Excluded => {
-            format::put_byte(out, at, b'(');
-            put_bytes(out, at + 1, format::key_of(s, b))
-        }
+        Kind::Included => put_opened(out, at, b'[', format::key_of(s, b)),
+        Kind::Excluded => put_opened(out, at, b'(', format::key_of(s, b)),
     }
 }
 
 // An end and a newline.
+#[tactic(auto, using(crate::proofs::LineExits::end_put_exits))]
 fn put_end(s: &[u8], b: BoundSpan, out: &mut [u8], at: usize) -> usize
     requires fact_1 { BoundInside s.now b }
     requires fact_2 { at + length (closed (end_text (bound_in s.now b))) ≤ length out.old }
     ensures value { result ≡ at + length (closed (end_text (bound_in s.now b))) }
     ensures out_after { out.new ≡ splice out.old at (closed (end_text (bound_in s.now b))) }
 {
-    let kind = b.kind;
-    match kind {
+    match b.kind {
         Kind::Unbounded => put_two(out, at, b'-', b'\n'),
-        Kind::Included => {
-            let end = text::put_hex(out, at, format::key_of(s, b));
-            put_two(out, end, b']', b'\n')
-        }
-        Kind::Excluded => {
-            let end = text::put_hex(out, at, format::key_of(s, b));
-            put_two(out, end, b')', b'\n')
-        }
+        Kind::Included => put_closed(out, at, format::key_of(s, b), b']'),
+        Kind::Excluded => put_closed(out, at, format::key_of(s, b), b')'),
     }
 }
 
 // The run's id, the view's place and the table's id.
+#[tactic(auto, using(crate::proofs::LineExits::names_exits))]
 fn put_names(out: &mut [u8], at: usize, id: u64, place: usize, table: &[u8]) -> usize
     requires { at + length (names id place table.now) ≤ length out.old }
     ensures value { result ≡ at + length (names id place table.now) }
@@ -103,6 +112,7 @@ fn put_names(out: &mut [u8], at: usize, id: u64, place: usize, table: &[u8]) -> 
 }
 
 // The bounds of a range.
+#[tactic(auto, using(crate::proofs::LineExits::bounds_exits))]
 fn put_bounds(s: &[u8], start: BoundSpan, end: BoundSpan, out: &mut [u8], at: usize) -> usize
     requires bound_inside_1 { BoundInside s.now start }
     requires bound_inside_2 { BoundInside s.now end }
@@ -115,6 +125,7 @@ fn put_bounds(s: &[u8], start: BoundSpan, end: BoundSpan, out: &mut [u8], at: us
 }
 
 // The line of a view.
+#[tactic(auto, using(crate::proofs::LineExits::line_put_exits))]
 fn put_line(s: &[u8], v: ViewSpan, id: u64, place: usize, out: &mut [u8], at: usize) -> usize
     requires fact_1 { ViewInside s.now v }
     requires fact_2 { at + length (line id place (view_in s.now v)) ≤ length out.old }
@@ -122,16 +133,14 @@ fn put_line(s: &[u8], v: ViewSpan, id: u64, place: usize, out: &mut [u8], at: us
     ensures out_after { out.new ≡ splice out.old at (line id place (view_in s.now v)) }
 {
     let e = manifest::effective(s, v);
-    let start = e.start;
-    let end = e.end;
-    let table = v.table;
-    let table_id = records::table_id_at(s, table.id);
-    let bytes = table_id.0;
-    let a = put_names(out, at, id, place, &bytes);
-    put_bounds(s, start, end, out, a)
+    let table = records::table_id_at(s, v.table.id);
+    let a = put_names(out, at, id, place, &table.0);
+    put_bounds(s, e.start, e.end, out, a)
 }
 
-// The lines of n views of a run.
+// The lines of n views of a run. The same walk as `views_len`, which adds where this writes: one walk for both would need a
+// trait with two contracts, and is no plainer.
+#[tactic(auto, using(crate::proofs::Loops::views_put_exits))]
 fn put_views(s: &[u8], from: usize, n: usize, id: u64, out: &mut [u8], first: usize) -> Reached
     requires from_in_bounds_1 { from ≤ length s.now }
     requires from_in_bounds_2 { T (is_got (read_many view.read n (drop from s.now))) }
@@ -139,34 +148,31 @@ fn put_views(s: &[u8], from: usize, n: usize, id: u64, out: &mut [u8], first: us
     ensures reached_past { ReachedPast s.now (read_many view.read n (drop from s.now)) first (lines id 0 (values_of (read_many view.read n (drop from s.now)))) result }
     ensures out_after { out.new ≡ splice out.old first (lines id 0 (values_of (read_many view.read n (drop from s.now)))) }
 {
-    let mut place = 0;
     let mut at = from;
     let mut to = first;
-    while place < n {
+    for place in 0..n {
         let v = records::view_there(s, at);
         to = put_line(s, v, id, place, out, to);
         at = v.past;
-        place += 1;
     }
     Reached { next: at, to }
 }
 
-// The lines of n runs.
+// The lines of n runs, the same walk as `runs_len`: two for the same reason.
+#[tactic(auto, using(crate::proofs::Loops::runs_put_exits))]
 fn put_runs(s: &[u8], from: usize, n: usize, out: &mut [u8], first: usize)
     requires from_in_bounds_1 { from ≤ length s.now }
     requires from_in_bounds_2 { T (is_got (read_many run.read n (drop from s.now))) }
     requires s_in_bounds { first + length (run_lines (values_of (read_many run.read n (drop from s.now)))) ≤ length out.old }
     ensures { out.new ≡ splice out.old first (run_lines (values_of (read_many run.read n (drop from s.now)))) }
 {
-    let mut seen = 0;
     let mut at = from;
     let mut to = first;
-    while seen < n {
+    for _ in 0..n {
         let run = records::run_there(s, at);
         let r = put_views(s, run.first, run.views, run.id, out, to);
         to = r.to;
         at = r.next;
-        seen += 1;
     }
 }
 
@@ -174,14 +180,11 @@ fn put_header(out: &mut [u8])
     requires { 25 ≤ length out.old }
     ensures { out.new ≡ splice out.old 0 header }
 {
-    let text = [
-        b'r', b'u', b'n', b' ', b'v', b'i', b'e', b'w', b' ', b't', b'a', b'b', b'l', b'e', b' ',
-        b's', b't', b'a', b'r', b't', b' ', b'e', b'n', b'd', b'\n',
-    ];
-    format::put(out, 0, &text);
+    format::put(out, 0, b"run view table start end\n");
 }
 
 // The listing of an image that is there, at the front of a buffer.
+#[tactic(auto, using(crate::proofs::WholeListing::listing_put_exits))]
 pub fn put_listing(s: &[u8], out: &mut [u8])
     requires fact_1 { T (is_got (image.read s.now)) }
     requires fact_2 { length (listing (values_of (image.read s.now))) ≤ length out.old }

@@ -1,6 +1,6 @@
 -- The code of a digit, by the two cases of its definition, and back.
 -- Assumes nothing.
-use Prim.Native.Nat.{ℕ, ◌+◌, ◌-◌, ◌<◌, ◌≤◌}
+use Prim.Native.Nat.{ℕ, ◌+◌, ◌<◌, ◌≤◌}
 use native.Mathlib.Omega.{arith}
 use mathlib.Core.Path.{◌≡◌, refl}
 use mathlib.Core.Bool.{Bool, true, false}
@@ -19,12 +19,6 @@ by_ten {C} n f g = go (ltb n 10) refl
 
 pub low_digit : (d : ℕ) → d < 10 → 48 + d ≡ glyph d
 low_digit d h = rw (lt-ltb d 10 h)
-
-pub high_digit : (d : ℕ) → 10 ≤ d → 97 + (d - 10) ≡ glyph d
-high_digit d h = rw (le-ltb d 10 h) (omega arith)
-
--- the exits of `digit`
-pub ruleset digits = (low_digit, high_digit)
 
 pub digit_back : (d : ℕ) → d < 16 → from_glyph (glyph d) ≡ d
 digit_back d h =

@@ -7,10 +7,12 @@ use mathlib.Core.Path.{◌≡◌, refl, sym, ap, ◌∙◌}
 use mathlib.Core.List.{List, [], ◌∷◌, ◌++◌, append_assoc, append-nil}
 use lib.ListN.{length, get_or, take, set, length-append}
 use lib.Seq.{take-suc, take_all, length-take-le}
+use Rattle.std.proofs.lemmas.List.{nil_from_length}
 use mir.Val.{Fits}
 use mir.Syntax.{w64}
 use Rattle.base.specs.Splice.{splice, splice_none, set_splice, set_is_splice, length_splice, splice_splice}
 use Rattle.text.specs.Text.{glyph, decimal, hex}
+use Rattle.text.proofs.Glyph.{by_ten}
 use Rattle.text.proofs.Decimal.{decimal_one, decimal_more, decimal_is_short}
 use Rattle.text.proofs.Hex.{hex_length, hex_append}
 
@@ -46,14 +48,16 @@ module _ {n rest len : ℕ} (p : Measured n rest len) where
 
 pub ruleset measures = (measured_none, len_fits, measured_more, measured_all)
 
--- ---- put_decimal: the last digits stand in their place, and those of rest are left before i
+-- ---- put_decimal: from i on stand the last digits, the tail. The front is left to put: the digits of rest, until none are left
 pub record Counted (d : List ℕ) (at n : ℕ) (out : List ℕ) (rest i : ℕ) : Type 0 where
   pub room : at + length (decimal n) ≤ length d
   pub small : rest < 2 ^ 64
-  pub place : i ≡ at + length (decimal rest)
+  pub front : List ℕ
   pub tail : List ℕ
+  pub place : i ≡ at + length front
   pub is : out ≡ splice d i tail
-  pub all : decimal n ≡ decimal rest ++ tail
+  pub all : decimal n ≡ front ++ tail
+  pub left : at < i → front ≡ decimal rest
 
 pub end_fits : (d : List ℕ) (at n : ℕ) {m : ℕ} → at + length (decimal n) ≤ length d → m ≡ length (decimal n) → length d < 2 ^ 64 → Fits w64 (at + m)
 end_fits d at n h e k = omega arith
@@ -63,47 +67,60 @@ counted_none d at n {m} h s e =
     record {
       room = h;
       small = s;
-      place = ap (λ k. at + k) e;
+      front = decimal n;
       tail = [];
+      place = ap (λ k. at + k) e;
       is = sym (splice_none d (at + m));
       all = sym (append-nil (decimal n));
+      left = λ _. refl;
     }
 
 module _ {d : List ℕ} {at n : ℕ} {out : List ℕ} {rest i : ℕ} (p : Counted d at n out rest i) where
   fills : i + length p.tail ≤ length d
-  fills = omega (arith, p.room, p.place, ap length p.all ∙ length-append (decimal rest) p.tail)
+  fills = omega (arith, p.room, p.place, ap length p.all ∙ length-append p.front p.tail)
 
   pub counted_length : length out ≡ length d
   counted_length = ap length p.is ∙ length_splice d i p.tail fills
 
-  pub place_before : 1 ≤ i
-  place_before = omega (arith, p.place, some rest p.small)
+  pub place_in : at < i → i - 1 < length out
+  place_in h = rw counted_length (omega (arith, fills))
 
-  pub place_in : i - 1 < length out
-  place_in = rw counted_length (omega (arith, place_before, fills))
-
-  pub counted_more : {x : ℕ} → 10 ≤ rest → x ≡ glyph (rest % 10) → Counted d at n (set out (i - 1) x) (rest / 10) (i - 1)
-  counted_more {x} h e =
-      let z : i ≡ i - 1 + 1 = omega (arith, place_before) in
+  -- the digit before the tail, where the digits before it are given
+  longer :
+      at < i
+      → (l : List ℕ)
+      → p.front ≡ l ++ (glyph (rest % 10) ∷ [])
+      → (at < i - 1 → l ≡ decimal (rest / 10))
+      → Counted d at n (set out (i - 1) (glyph (rest % 10))) (rest / 10) (i - 1)
+  longer h l e f =
+      let z : i ≡ i - 1 + 1 = omega arith in
       record {
         room = p.room;
         small = omega (arith, p.small);
-        place = omega (arith, p.place, one_less rest h p.small);
+        front = l;
         tail = glyph (rest % 10) ∷ p.tail;
-        is = rw (e, p.is) (ap (λ k. set (splice d k p.tail) (i - 1) (glyph (rest % 10))) z ∙ set_splice d (i - 1) p.tail (glyph (rest % 10)) (omega (arith, place_before, fills)));
-        all = p.all ∙ rw (decimal_more rest h p.small) (append_assoc (decimal (rest / 10)) (glyph (rest % 10) ∷ []) p.tail);
+        place = omega (arith, p.place, ap length e ∙ length-append l (glyph (rest % 10) ∷ []));
+        is = rw p.is (ap (λ k. set (splice d k p.tail) (i - 1) (glyph (rest % 10))) z ∙ set_splice d (i - 1) p.tail (glyph (rest % 10)) (omega (arith, fills)));
+        all = p.all ∙ rw e (append_assoc l (glyph (rest % 10) ∷ []) p.tail);
+        left = f;
       }
 
-  pub first_in : at < length out
-  first_in = rw counted_length (omega (arith, p.place, some rest p.small, fills))
+  pub counted_more : {x : ℕ} → at < i → x ≡ glyph (rest % 10) → Counted d at n (set out (i - 1) x) (rest / 10) (i - 1)
+  counted_more {x} h e =
+      rw e (by_ten
+      rest
+      (λ s. let o : p.front ≡ glyph (rest % 10) ∷ [] = p.left h ∙ decimal_one rest s ∙ ap (λ k. glyph k ∷ []) (omega arith) in
+      longer h [] o (λ g. absurd (omega (arith, p.place, ap length o))))
+      (λ m. longer h (decimal (rest / 10)) (p.left h ∙ decimal_more rest m p.small) (λ g. refl)))
 
-  pub counted_all : {x : ℕ} → rest < 10 → x ≡ glyph rest → set out at x ≡ splice d at (decimal n)
-  counted_all {x} h e =
-      let o = decimal_one rest h in
-      let z : i ≡ at + 1 = omega (arith, p.place, ap length o) in
-      rw (e, p.is, p.all, o, z) (set_splice d at p.tail (glyph rest) (omega (arith, fills)))
+  pub counted_all : i ≤ at → out ≡ splice d at (decimal n)
+  counted_all h =
+      let z : length p.front ≡ 0 = omega (arith, p.place) in
+      let e : i ≡ at = omega (arith, p.place) in
+      let o : p.front ≡ [] = nil_from_length _ z in
+      rw (p.is, p.all, o, e) refl
 
-pub ruleset counts = (end_fits, counted_none, counted_length, place_before, place_in, counted_more, first_in, counted_all)
+pub ruleset counts = (end_fits, counted_none, counted_length, place_in, counted_more, counted_all)
 
 -- ---- put_hex: the text of the first i bytes of src stands in its place, and ends at to
 pub record Spelled (d : List ℕ) (at : ℕ) (src out : List ℕ) (i to : ℕ) : Type 0 where

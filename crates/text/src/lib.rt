@@ -20,13 +20,14 @@ pub fn decimal_len(n: u64) -> usize
     let mut rest = n;
     let mut len = 1;
     while 10 <= rest {
-        rest = rest / 10;
+        rest /= 10;
         len += 1;
     }
     len
 }
 
 // The digits of n, the last one first, as division gives them; answers the place past them.
+#[tactic(auto, using(crate::proofs::Puts::counts))]
 pub fn put_decimal(out: &mut [u8], at: usize, n: u64) -> usize
     requires { at + length (decimal n) ≤ length out.old }
     ensures value { result ≡ at + length (decimal n) }
@@ -34,30 +35,25 @@ pub fn put_decimal(out: &mut [u8], at: usize, n: u64) -> usize
 {
     let end = at + decimal_len(n);
     let mut rest = n;
-    let mut i = end;
-    while 10 <= rest {
-        i -= 1;
+    for i in (at..end).rev() {
         out[i] = digit((rest % 10) as u8);
-        rest = rest / 10;
+        rest /= 10;
     }
-    out[at] = digit(rest as u8);
     end
 }
 
 // Two digits for each byte of src; answers the place past them.
+#[tactic(auto, using(crate::proofs::Puts::spells))]
 pub fn put_hex(out: &mut [u8], at: usize, src: &[u8]) -> usize
     requires { at + length (hex src.now) ≤ length out.old }
     ensures value { result ≡ at + length (hex src.now) }
     ensures out_after { out.new ≡ splice out.old at (hex src.now) }
 {
-    let mut i = 0;
     let mut to = at;
-    while i < src.len() {
-        let b = src[i];
+    for &b in src {
         out[to] = digit(b / 16);
         out[to + 1] = digit(b % 16);
         to += 2;
-        i += 1;
     }
     to
 }

@@ -1,9 +1,10 @@
 -- The fraction of two lengths: the greater of a length and epsilon is above zero, and what is clamped lies between the ends.
 -- Assumes nothing.
-use Rattle.std.proofs.Common.{◌≡◌, Bool, true, false, T, refl}
+use Rattle.std.proofs.Common.{◌≡◌, Bool, true, false, cond, T, refl, ◌∙◌}
 use lib.Ieee.{Float, binary64, of_bits, div, lt, eq, le}
 use lib.Ieee.Positive.{positive}
 use lib.Ieee.Positive as values
+use Rattle.std.specs.Float.{float_clamp}
 use Rattle.base.specs.Pick.{pick}
 use Rattle.visible_size.specs.Steps.{zero64, one64, epsilon, min_visible_fraction, maximum, clamp, lengths_fraction}
 use Rattle.visible_size.specs.Numbers.{InPart, FractionFound}
@@ -19,16 +20,14 @@ second_kept x y h = rw h
 
 pub ruleset greater = (first_greater, second_kept)
 
-pub raised : (x low high : Float) → lt x low ≡ true → low ≡ clamp x low high
-raised x low high h = rw h
-
-pub lowered : (x low high : Float) → lt x low ≡ false → lt high x ≡ true → high ≡ clamp x low high
-lowered x low high h k = rw (h, k)
-
-pub left_as_is : (x low high : Float) → lt x low ≡ false → lt high x ≡ false → x ≡ clamp x low high
-left_as_is x low high h k = rw (h, k)
-
-pub ruleset clamped = (raised, lowered, left_as_is)
+-- std's word for the same
+std_clamp : (x low high : Float) → float_clamp x low high ≡ clamp x low high
+std_clamp x low high = go (lt x low) (lt high x)
+  where
+    go : (t u : Bool) → cond t low (cond u high x) ≡ pick t low (pick u high x)
+    go true u = refl
+    go false true = refl
+    go false false = refl
 
 -- ---- what is clamped
 pub record Between (low x high : Float) : Type 0 where
@@ -82,10 +81,11 @@ pub nothing_shown : (v p : Float) → eq v zero64 ≡ true → FractionFound (le
 unfolding lengths_fraction
 nothing_shown v p e = record { meaning = rw e; within = tt }
 
-pub shown : (v p : Float) {d r : Float} → T (le v one64) → T (le p one64) → eq v zero64 ≡ false → d ≡ maximum p epsilon → r ≡ clamp (div binary64 v d) min_visible_fraction one64 → FractionFound (lengths_fraction v p) (Part r)
+pub shown : (v p : Float) {d r : Float} → T (le v one64) → T (le p one64) → eq v zero64 ≡ false → d ≡ maximum p epsilon → r ≡ float_clamp (div binary64 v d) min_visible_fraction one64 → FractionFound (lengths_fraction v p) (Part r)
 unfolding lengths_fraction
-shown v p h k e q z =
+shown v p {d} h k e q z =
     let b = share_between v p h k in
-    record { meaning = rw (e, z, q); within = rw (z, q) (b.least, b.most) }
+    let c = z ∙ std_clamp (div binary64 v d) min_visible_fraction one64 in
+    record { meaning = rw (e, c, q); within = rw (c, q) (b.least, b.most) }
 
 pub ruleset shares = (nothing_shown, shown)

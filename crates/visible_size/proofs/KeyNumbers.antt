@@ -1,13 +1,15 @@
 -- The number of a key, byte by byte: no number of i bytes is above that of i bytes 255, and eight of those are at most 1.
 -- Assumes nothing.
-use Rattle.std.proofs.Common.{◌≡◌, ℕ, zero, suc, ◌+◌, ◌-◌, ◌<◌, ◌≤◌, Bool, ◌&&◌, T, List, [], ◌∷◌, length, get_or, take, drop, pos, refl, add-one, arith, lit≤, drop_of_length-le, drop-cons}
+use Rattle.std.proofs.Common.{◌≡◌, ℕ, zero, suc, ◌+◌, ◌-◌, ◌<◌, ◌≤◌, min, Bool, ◌&&◌, T, List, [], ◌∷◌, ◌++◌, ◌∙◌, inl, inr, eq-or-lt_of_le, length, get_or, take, drop, pos, refl, add-one, arith, lit≤, drop_of_length-le, drop-cons}
+use Rattle.std.proofs.lemmas.List.{length_push}
 use lib.Seq.{take-nil}
-use lib.Ieee.{Float, binary64, of_bits, of_int, add, mul, div, le}
+use lib.Ieee.{Float, nan, binary64, of_bits, of_int, add, mul, div, le}
 use lib.Ieee.Fits.{and_l, and_r}
 use Rattle.base.specs.Bytes.{Bytes, bytes_tail}
 use Rattle.base.specs.Table.{all_below, below_all}
 use Rattle.visible_size.specs.Steps.{zero64, one64, scale, with_bytes, key_fraction}
 use Rattle.visible_size.specs.Numbers.{InUnit, KeyNumber}
+use Rattle.visible_size.proofs.Scales.{scales, in_table}
 use Rattle.visible_size.proofs.Floats.{plain, AtMost, at_most_same, product_grows, sum_grows, whole_grows, le_trans_plain, zero_least}
 
 abbrev byte255 : Float
@@ -114,4 +116,19 @@ module _ {part : List ℕ} {i : ℕ} {x : Float} (p : Counting part i x) where
   all_read h =
       record { meaning = rw (drop_of_length-le part h, take-nil) at p.rest; within = bounded i x p.upto p.within }
 
-pub ruleset counted = (begin, one_more, eight_read, all_read)
+  -- the byte at i and its scale, as the code has the two
+  pub pair_more :
+      {X : Type 0} (ys : List X) (z : X) {b : ℕ} {f r : Float}
+      → i ≡ length ys
+      → i < length part
+      → i < 8
+      → get_or part i 0 < 256
+      → b ≡ get_or part i 0
+      → f ≡ of_int binary64 (pos b)
+      → r ≡ get_or scales i nan
+      → Counting part (length (ys ++ (z ∷ []))) (add binary64 x (mul binary64 f r))
+  pair_more {X} ys z {b} {f} {r} n l h w e g k =
+      rw (length_push ys z, ← n, g, e) (one_more h l w (k ∙ in_table i h))
+
+  pub pairs_read : i ≡ min (length part) 8 → KeyNumber part x
+  pairs_read h = elim (eq-or-lt_of_le p.upto) [ inl e ↦ eight_read (omega arith) | inr l ↦ all_read (omega arith) ]

@@ -10,28 +10,14 @@ use crate::VisibleFraction;
 use crate::keys::{common_prefix_len, range_len};
 use format::span::{RangeSpan, bound_key};
 
-// f64::EPSILON.
-const EPSILON: f64 = 0.0000000000000002220446049250313080847263336181640625;
-
 // The least fraction that is answered.
 const MIN_VISIBLE_FRACTION: f64 = 0.000001;
 
+// Not `f64::max`: of two equal floats that may answer either, and the promise below names one.
 fn maximum(x: f64, y: f64) -> f64
     ensures { result ≡ steps.maximum x y }
 {
     if y < x { x } else { y }
-}
-
-fn clamp(x: f64, low: f64, high: f64) -> f64
-    ensures { result ≡ steps.clamp x low high }
-{
-    if x < low {
-        return low;
-    }
-    if high < x {
-        return high;
-    }
-    x
 }
 
 // Of the visible length and the physical one.
@@ -43,11 +29,8 @@ fn lengths_fraction(visible: f64, physical: f64) -> VisibleFraction
     if visible == 0.0 {
         return VisibleFraction::Whole;
     }
-    VisibleFraction::Part(clamp(
-        visible / maximum(physical, EPSILON),
-        MIN_VISIBLE_FRACTION,
-        1.0,
-    ))
+    let share = visible / maximum(physical, f64::EPSILON);
+    VisibleFraction::Part(share.clamp(MIN_VISIBLE_FRACTION, 1.0))
 }
 
 fn same_range(s: &[u8], r: RangeSpan, q: RangeSpan) -> bool
@@ -57,10 +40,8 @@ fn same_range(s: &[u8], r: RangeSpan, q: RangeSpan) -> bool
     requires fact_4 { BoundInside s.now q.end }
     ensures { result ≡ same_range (range_in s.now r.start r.end) (range_in s.now q.start q.end) }
 {
-    if key::is_equal(format::span::compare(s, r.start, s, q.start, true)) {
-        return key::is_equal(format::span::compare(s, r.end, s, q.end, false));
-    }
-    false
+    key::is_equal(format::span::compare(s, r.start, s, q.start, true))
+        && key::is_equal(format::span::compare(s, r.end, s, q.end, false))
 }
 
 // Of a table's own range and a view's effective range.

@@ -21,23 +21,13 @@ const SCALES: [f64; 8] = [
     0.0000000000000000000542101086242752217003726400434970855712890625,
 ];
 
-// What the byte at a place counts by.
-fn scale(place: usize) -> f64
-    requires { place < 8 }
-    ensures { result ≡ steps.scale place }
-{
-    SCALES[place]
-}
-
 // The number of a part of a key: at most eight bytes are read.
 pub fn key_fraction(part: &[u8]) -> f64
     ensures { KeyNumber part.now result }
 {
     let mut number = 0.0;
-    let mut i = 0;
-    while i < 8 && i < part.len() {
-        number = number + part[i] as f64 * scale(i);
-        i += 1;
+    for (&byte, &scale) in part.iter().zip(&SCALES) {
+        number += f64::from(byte) * scale;
     }
     number
 }
@@ -46,24 +36,14 @@ pub fn key_fraction(part: &[u8]) -> f64
 fn number_after(key: &[u8], skip: usize) -> f64
     ensures { KeyNumber (drop skip key.now) result }
 {
-    if key.len() < skip {
-        return key_fraction(&key[..0]);
-    }
-    key_fraction(&key[skip..])
+    key_fraction(&key[skip.min(key.len())..])
 }
 
 // How many bytes two keys begin with alike.
 pub fn common_prefix_len(a: &[u8], b: &[u8]) -> usize
     ensures { result ≡ common_prefix_len a.now b.now }
 {
-    let mut i = 0;
-    while i < a.len() && i < b.len() {
-        if a[i] != b[i] {
-            return i;
-        }
-        i += 1;
-    }
-    i
+    a.iter().zip(b).take_while(|(x, y)| x == y).count()
 }
 
 // The number of a bound; without a key, that of its side.
@@ -72,11 +52,9 @@ fn bound_number(s: &[u8], b: BoundSpan, skip: usize, side: f64) -> f64
     requires fact_2 { InUnit side }
     ensures { BoundNumber skip side (bound_in s.now b) result }
 {
-    let kind = b.kind;
-    match kind {
+    match b.kind {
         Kind::Unbounded => side,
-        Kind::Included => number_after(key_of(s, b), skip),
-        Kind::Excluded => number_after(key_of(s, b), skip),
+        Kind::Included | Kind::Excluded => number_after(key_of(s, b), skip),
     }
 }
 
@@ -86,7 +64,5 @@ pub fn range_len(s: &[u8], r: RangeSpan, skip: usize) -> f64
     requires fact_2 { BoundInside s.now r.end }
     ensures { RangeLen skip (range_in s.now r.start r.end) result }
 {
-    let start = bound_number(s, r.start, skip, 0.0);
-    let end = bound_number(s, r.end, skip, 1.0);
-    end - start
+    bound_number(s, r.end, skip, 1.0) - bound_number(s, r.start, skip, 0.0)
 }

@@ -6,14 +6,13 @@ ghost use Rattle.visible_size.specs.Numbers.{InPart, SizeFound};
 
 use crate::VisibleFraction;
 
-// The nearest whole number, a half away from zero, of a number from 0 to 2^53. Twice it is exact, and so is the whole part.
+// The nearest whole number, a half away from zero, of a number from 0 to 2^53.
 fn round_away(x: f64) -> u64
     requires fact_1 { T (le zero64 x) }
     requires fact_2 { T (le x most_size) }
     ensures { result ≡ to_unsigned 64 (round_half_away x) }
 {
-    let twice = std::num::truncating_f64_to_u64(x + x);
-    twice / 2 + twice % 2
+    std::num::truncating_f64_to_u64(x.round())
 }
 
 fn fraction_number(f: VisibleFraction) -> f64
@@ -31,6 +30,5 @@ pub fn visible_size(raw: u64, f: VisibleFraction) -> u64
     requires fact_2 { InPart f }
     ensures { SizeFound raw f result }
 {
-    let size = round_away(raw as f64 * fraction_number(f));
-    if size < 1 { 1 } else { size }
+    round_away(raw as f64 * fraction_number(f)).max(1)
 }

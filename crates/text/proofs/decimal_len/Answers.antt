@@ -4,14 +4,8 @@ use Rattle.text.proofs.Puts.{measures}
 use borrow.Author.Rules.{rules}
 use Rattle.text.proofs.decimal_len.Goals as goal
 
-pub loop-rest-init : goal.loop-rest-init
-loop-rest-init c = search (rules, measures)
-
 pub overflow_add-len : goal.overflow_add-len
 overflow_add-len c = search (rules, measures)
-
-pub loop-rest-smaller : goal.loop-rest-smaller
-loop-rest-smaller c = search (rules, measures)
 
 pub loop-rest-preserved : goal.loop-rest-preserved
 loop-rest-preserved c = search (rules, measures)

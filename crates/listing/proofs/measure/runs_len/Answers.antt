@@ -1,29 +1,17 @@
--- `listing::runs_len` meets its contract.
+-- `listing::measure::runs_len` meets its contract.
 -- Assumes nothing.
+use Rattle.std.proofs.Common.{rules}
 use Rattle.listing.proofs.Loops.{runs_len_exits}
-use borrow.Author.Rules.{rules}
 use Rattle.listing.proofs.measure.runs_len.Goals as goal
-
-pub loop-seen-init : goal.loop-seen-init
-loop-seen-init c = search (rules, runs_len_exits)
 
 pub run_there-run-requires : goal.run_there-run-requires
 run_there-run-requires c = search (rules, runs_len_exits)
 
-pub views_len-r-requires : goal.views_len-r-requires
-views_len-r-requires c = search (rules, runs_len_exits)
+pub views_len-r-requires-clause-fact_3 : goal.views_len-r-requires-clause-fact_3
+views_len-r-requires-clause-fact_3 c = search (rules, runs_len_exits)
 
-pub overflow_add-to : goal.overflow_add-to
-overflow_add-to c = search (rules, runs_len_exits)
+pub views_len-r-requires-clause-fact_4 : goal.views_len-r-requires-clause-fact_4
+views_len-r-requires-clause-fact_4 c = search (rules, runs_len_exits)
 
-pub overflow_add-seen : goal.overflow_add-seen
-overflow_add-seen c = search (rules, runs_len_exits)
-
-pub loop-seen-smaller : goal.loop-seen-smaller
-loop-seen-smaller c = search (rules, runs_len_exits)
-
-pub loop-seen-preserved : goal.loop-seen-preserved
-loop-seen-preserved c = search (rules, runs_len_exits)
-
-pub returns : goal.returns
-returns c = search (rules, runs_len_exits)
+pub returns-clause-value : goal.returns-clause-value
+returns-clause-value c = search (rules, runs_len_exits)

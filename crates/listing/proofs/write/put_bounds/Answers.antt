@@ -1,17 +1,11 @@
--- `listing::put_bounds` meets its contract.
+-- `listing::write::put_bounds` meets its contract.
 -- Assumes nothing.
+use Rattle.std.proofs.Common.{rules}
 use Rattle.listing.proofs.LineExits.{bounds_exits}
-use borrow.Author.Rules.{rules}
 use Rattle.listing.proofs.write.put_bounds.Goals as goal
 
-pub put_start-a-requires : goal.put_start-a-requires
-put_start-a-requires c = search (rules, bounds_exits)
+pub put_start-a-requires-clause-fact_2 : goal.put_start-a-requires-clause-fact_2
+put_start-a-requires-clause-fact_2 c = search (rules, bounds_exits)
 
-pub put_end-requires : goal.put_end-requires
-put_end-requires c = search (rules, bounds_exits)
-
-pub shape_of-out : goal.shape_of-out
-shape_of-out c = search (rules, bounds_exits)
-
-pub returns : goal.returns
-returns c = search (rules, bounds_exits)
+pub returns-clause-value : goal.returns-clause-value
+returns-clause-value c = search (rules, bounds_exits)

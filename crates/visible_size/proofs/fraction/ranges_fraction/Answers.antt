@@ -4,9 +4,6 @@ use Rattle.std.proofs.Common.{rules}
 use Rattle.visible_size.proofs.RangeExits.{fraction_exits, part_of}
 use Rattle.visible_size.proofs.fraction.ranges_fraction.Goals as goal
 
-pub lengths_fraction-requires : goal.lengths_fraction-requires
-lengths_fraction-requires c = search (rules, fraction_exits)
-
 pub returns-then-same_range : goal.returns-then-same_range
 returns-then-same_range c = search (rules, fraction_exits)
 

@@ -1,32 +1,11 @@
--- `visible_size::keys::common_prefix_len` meets its contract, by what its loop keeps.
+-- `visible_size::keys::common_prefix_len` meets its contract.
 -- Assumes nothing.
-use Rattle.std.proofs.Common.{rules}
-use Rattle.visible_size.proofs.Prefixes.{alike_exits}
+use Rattle.std.proofs.Common.{rules, tests}
+use Rattle.std.proofs.lemmas.Iterator.{YieldsList-from_slice, YieldsList-from_zip}
+use Rattle.std.proofs.lemmas.Iterator.Consumers.{count_from_yields_List}
+use Rattle.std.proofs.lemmas.Iterator.Search.{YieldsList-from_take_while}
+use Rattle.visible_size.proofs.Prefixes.{one_byte, alike}
 use Rattle.visible_size.proofs.keys.common_prefix_len.Goals as goal
 
-pub loop-i-init : goal.loop-i-init
-loop-i-init c = search (rules, alike_exits)
-
-pub bounds-a-i : goal.bounds-a-i
-bounds-a-i c = search (rules, alike_exits)
-
-pub bounds-b-i : goal.bounds-b-i
-bounds-b-i c = search (rules, alike_exits)
-
-pub returns-then-a-i : goal.returns-then-a-i
-returns-then-a-i c = search (rules, alike_exits)
-
-pub overflow_add-i : goal.overflow_add-i
-overflow_add-i c = search (rules, alike_exits)
-
-pub loop-i-smaller : goal.loop-i-smaller
-loop-i-smaller c = search (rules, alike_exits)
-
-pub loop-i-preserved : goal.loop-i-preserved
-loop-i-preserved c = search (rules, alike_exits)
-
-pub returns-else-i-b : goal.returns-else-i-b
-returns-else-i-b c = search (rules, alike_exits)
-
-pub returns-after-loop-i : goal.returns-after-loop-i
-returns-after-loop-i c = search (rules, alike_exits)
+pub returns : goal.returns
+returns c = alike c.args.a.now c.args.b.now (count_from_yields_List c.take_while.result _ c.count.ensures.ran (YieldsList-from_take_while _ one_byte (YieldsList-from_zip (YieldsList-from_slice c.args.a.now (cc)) (YieldsList-from_slice c.args.b.now (cc))) c.take_while.ensures.closure c.take_while.ensures.done (λ x b q k. search (rules, tests))))

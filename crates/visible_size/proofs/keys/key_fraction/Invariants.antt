@@ -1,11 +1,8 @@
 -- `visible_size::keys::key_fraction` meets its contract.
 -- Assumes nothing.
-use Rattle.std.proofs.Common.{◌-◌}
+use Rattle.std.proofs.Common.{length}
 use Rattle.visible_size.proofs.KeyNumbers.{Counting}
 use Rattle.visible_size.proofs.keys.key_fraction.Given as goal
 
-abbrev pub invariant-loop-i : goal.invariant-loop-i
-invariant-loop-i l = Counting l.part l.i l.number
-
-abbrev pub decreases-loop-i : goal.decreases-loop-i
-decreases-loop-i l = 8 - l.i
+abbrev pub invariant-loop-byte : goal.invariant-loop-byte
+invariant-loop-byte l = Counting l.part (length l.yielded) l.number
