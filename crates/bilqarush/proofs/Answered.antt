@@ -14,8 +14,8 @@ use Rattle.base.specs.Pick.{and_first, and_second}
 use Rattle.base.specs.Outcome.{answer, written_to}
 use Rattle.key.specs.Order.{Key, cmp_number, cmp_key}
 use Rattle.comparable_range.specs.Range.{Bound, unbounded, included, excluded, Range, non_empty, bounds_pass, chosen, intersect_sides, union_sides}
-use Rattle.comparable_range.specs.declared.Sides.{Sides}
-use Rattle.comparable_range.specs.declared.Sides.TheVariants.{Nothing, From}
+use Rattle.comparable_range.specs.Range.{Sides}
+use Rattle.std.specs.Prelude.{None, Some}
 use Rattle.format.specs.Range.{head_of, read_bound, read_range, write_bound, write_range}
 use Rattle.format.specs.Number.{write_number}
 use Rattle.format.specs.Key.{write_key}
@@ -33,8 +33,8 @@ use Rattle.bilqarush.specs.Laws.{bare, IntersectAnswersTheIntersection, UnionAns
 
 -- ---- the sides choose the bounds
 bare_joint : (p : Pair) (i : Sides) → bare (joint p i) ≡ chosen p.first p.second i
-bare_joint p Nothing = refl
-bare_joint p (From s e) = refl
+bare_joint p None = refl
+bare_joint p (Some (s, e)) = refl
 
 pub intersect_answers_the_intersection : IntersectAnswersTheIntersection
 intersect_answers_the_intersection p = bare_joint p (intersect_sides p.first p.second)

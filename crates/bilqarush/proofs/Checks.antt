@@ -10,7 +10,7 @@ use lib.ListN.{length, take, drop, length-take, length-drop}
 use Rattle.base.specs.Outcome.{stop, answer, test_of}
 use Rattle.base.specs.declared.Tested.TheVariants.{Is, Stop as TestedStop}
 use Rattle.key.specs.Order.{cmp_key, sign}
-use Rattle.key.specs.declared.Order.{Order}
+use Rattle.std.specs.declared.cmp.Ordering.{Ordering}
 use Rattle.comparable_range.specs.Range.{bound_of, cmp_bound, non_empty, holds}
 use Rattle.comparable_range.specs.declared.Kind.{Kind}
 use Rattle.format.specs.Range.{read_range, range_in, BoundInside, RangeWhole}
@@ -39,7 +39,7 @@ module _ (a b : List ℕ) where
   unfolding compare_outcome
   second_long h k = rw (key_fits a h, key_long b k)
 
-  pub compared : {o : Order} {z : ℤ} → length a ≤ 1024 → length b ≤ 1024 → o ≡ cmp_key a b → z ≡ sign o → order_of (Ordered z) ≡ compare_outcome a b
+  pub compared : {o : Ordering} {z : ℤ} → length a ≤ 1024 → length b ≤ 1024 → o ≡ cmp_key a b → z ≡ sign o → order_of (Ordered z) ≡ compare_outcome a b
   unfolding compare_outcome
   compared h k e q = rw (key_fits a h, key_fits b k, q, e)
 
@@ -56,7 +56,7 @@ module _ (ka : ℕ) (a : List ℕ) (kb : ℕ) (b : List ℕ) (start : Bool) (g :
     unfolding cmp_bound_outcome
     second_stops w = rw (← e, q, ← f, w)
 
-    pub bounds_ordered : {k : Kind} {o : Order} {z : ℤ} → h ≡ GivenBound k → o ≡ cmp_bound start (bound_of j a) (bound_of k b) → z ≡ sign o → order_of (Ordered z) ≡ cmp_bound_outcome ka a kb b start
+    pub bounds_ordered : {k : Kind} {o : Ordering} {z : ℤ} → h ≡ GivenBound k → o ≡ cmp_bound start (bound_of j a) (bound_of k b) → z ≡ sign o → order_of (Ordered z) ≡ cmp_bound_outcome ka a kb b start
     unfolding cmp_bound_outcome
     bounds_ordered w u v = rw (← e, q, ← f, w, v, u)
 

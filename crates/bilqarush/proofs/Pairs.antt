@@ -10,8 +10,8 @@ use Rattle.base.specs.Outcome.{Outcome, stop, answer}
 use Rattle.key.specs.Order.{Key}
 use Rattle.comparable_range.specs.Range.{non_empty, of, intersect_sides, union_sides}
 use Rattle.comparable_range.specs.declared.Side.{Side}
-use Rattle.comparable_range.specs.declared.Sides.{Sides}
-use Rattle.comparable_range.specs.declared.Sides.TheVariants.{Nothing as NoSides, From}
+use Rattle.comparable_range.specs.Range.{Sides}
+use Rattle.std.specs.Prelude.{None, Some}
 use Rattle.format.specs.Range.{range_in, BoundInside, RangeWhole}
 use Rattle.format.specs.Joint.{Joint}
 use Rattle.format.specs.declared.range.BoundSpan.{BoundSpan}
@@ -61,12 +61,12 @@ pub ruleset pair_exits = (first_stops, second_stops, first_fails, second_fails, 
 
 -- ---- from_sides
 module _ (r q : RangeSpan) {i : Sides} where
-  pub none_joined : i ≡ NoSides → Nothing ≡ joined_by i r q
+  pub none_joined : i ≡ None → Nothing ≡ joined_by i r q
   none_joined h = rw h
 
   pub one_joined :
       {x y : Side} {u v : BoundSpan}
-      → i ≡ From x y
+      → i ≡ Some (x, y)
       → u ≡ of x r.start q.start
       → v ≡ of y r.end q.end
       → Found (record { side = x; bound = u }) (record { side = y; bound = v }) ≡ joined_by i r q
@@ -98,12 +98,12 @@ module _ {a b : List ℕ} {r : Both} (w : BothFound a b r) {x y : RangeSpan} (q 
   in_4 = places.1.1.1
 
   meant : (i : Sides) → joint_of a b (joined_by i x y) ≡ answer (joint pair i)
-  meant NoSides = refl
-  meant (From s e) = rw (side_bound s a b x.start y.start refl refl refl, side_bound e a b x.end y.end refl refl refl)
+  meant None = refl
+  meant (Some (s, e)) = rw (side_bound s a b x.start y.start refl refl refl, side_bound e a b x.end y.end refl refl refl)
 
   within : (i : Sides) → JoinedInside a b (joined_by i x y)
-  within NoSides = tt
-  within (From s e) =
+  within None = tt
+  within (Some (s, e)) =
       (side_inside s a b x.start y.start refl refl in_1 in_3, side_inside e a b x.end y.end refl refl in_2 in_4)
 
   made : (i : Sides) {j : Joined} (g : Outcome (Option Joint)) → j ≡ joined_by i x y → answer (joint pair i) ≡ g → JointFound a b g j

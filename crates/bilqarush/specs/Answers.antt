@@ -5,8 +5,8 @@ use Rattle.base.specs.Outcome.{Outcome, stop, answer}
 use Rattle.key.specs.Order.{Key}
 use Rattle.comparable_range.specs.Range.{of}
 use Rattle.comparable_range.specs.declared.Side.{Side}
-use Rattle.comparable_range.specs.declared.Sides.{Sides}
-use Rattle.comparable_range.specs.declared.Sides.TheVariants.{Nothing as NoSides, From}
+use Rattle.comparable_range.specs.Range.{Sides}
+use Rattle.std.specs.Prelude.{None, Some}
 use Rattle.format.specs.Range.{range_in, BoundInside}
 use Rattle.format.specs.Span.{key_of}
 use Rattle.format.specs.declared.range.BoundSpan.{BoundSpan}
@@ -46,8 +46,8 @@ abbrev pub supplied_by : Side → BoundSpan → BoundSpan → Supplied
 supplied_by side x y = record { side = side; bound = of side x y }
 
 abbrev pub joined_by : Sides → RangeSpan → RangeSpan → Joined
-joined_by NoSides r q = Nothing
-joined_by (From x y) r q = Range (supplied_by x r.start q.start) (supplied_by y r.end q.end)
+joined_by None r q = Nothing
+joined_by (Some (x, y)) r q = Range (supplied_by x r.start q.start) (supplied_by y r.end q.end)
 
 -- ---- a point: its start is included, so its key stands behind the head byte and the 2 bytes of its length
 abbrev pub point_at : Outcome (Option Key) → Point

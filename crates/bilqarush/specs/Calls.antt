@@ -4,8 +4,8 @@ use Rattle.std.proofs.Math.Option.{Option, none, some}
 use Rattle.base.specs.Outcome.{Outcome, stop, answer, and_then, check, written_to}
 use Rattle.key.specs.Order.{Key, cmp_key, sign}
 use Rattle.comparable_range.specs.Range.{Range, cmp_bound, non_empty, holds, of, intersect_sides, union_sides}
-use Rattle.comparable_range.specs.declared.Sides.{Sides}
-use Rattle.comparable_range.specs.declared.Sides.TheVariants.{Nothing, From}
+use Rattle.comparable_range.specs.Range.{Sides}
+use Rattle.std.specs.Prelude.{None, Some}
 use Rattle.format.specs.Range.{read_range, write_range}
 use Rattle.format.specs.Whole.{whole, key_given}
 use Rattle.format.specs.Given.{bound_given}
@@ -48,8 +48,8 @@ as_point_outcome l = and_then (range_given l) (λ r. answer (as_point r))
 
 -- the range whose bounds the sides supply, each with the side of the given range that it comes from
 abbrev pub joint : Pair → Sides → Option Joint
-joint p Nothing = none
-joint p (From s e) =
+joint p None = none
+joint p (Some (s, e)) =
     some (record {
       start = record { side = s; bound = of s p.first.start p.second.start };
       end = record { side = e; bound = of e p.first.end p.second.end };

@@ -12,8 +12,8 @@ use borrow.Author.Tests.{ltb-true, ltb-false, eqb-true, eqb-false, eq-eqb, ne_eq
 use Rattle.base.specs.Pick.{pick}
 use Rattle.base.specs.Bytes.{bytes_tail}
 use Rattle.key.specs.Order.{Key, cmp_key, cmp_number, is_less}
-use Rattle.key.specs.declared.Order.{Order}
-use Rattle.key.specs.declared.Order.TheVariants.{Less, Equal, Greater}
+use Rattle.std.specs.declared.cmp.Ordering.{Ordering}
+use Rattle.std.specs.declared.cmp.Ordering.TheVariants.{Less, Equal, Greater}
 use Rattle.key.proofs.Linear.{cmp_self, number_linear, number_less, number_greater}
 use Rattle.comparable_range.specs.Range.{Bound, unbounded, included, excluded, Range, start_holds, end_holds, holds}
 use Rattle.bytes_range.specs.Prefix.{next_prefix, up_to, from_prefix, join_start, join_end, from_prefix_and_subrange}
@@ -138,7 +138,7 @@ unfolding holds from_prefix_and_subrange
 held_on b p r y x k = go (cmp_number b y) refl
   where
     go :
-        (o : Order)
+        (o : Ordering)
         → cmp_number b y ≡ o
         → holds (from_prefix_and_subrange (b ∷ p) r) (y ∷ x) ≡ (eqb b y && holds (from_prefix_and_subrange p r) x)
     go Less e =

@@ -11,7 +11,7 @@ use lib.Dec.{eqb, leb}
 use borrow.Author.Tests.{ne_eqb, le-leb, lt-leb, leb-true, leb-false}
 use Rattle.base.specs.Pick.{pick}
 use Rattle.key.specs.Order.{Key, cmp_key, is_equal}
-use Rattle.key.specs.declared.Order.{Order}
+use Rattle.std.specs.declared.cmp.Ordering.{Ordering}
 use Rattle.comparable_range.specs.Range.{unbounded, included, excluded, bound_of, range_of}
 use Rattle.comparable_range.specs.Factors.{is_keyed}
 use Rattle.comparable_range.specs.declared.Kind.{Kind}
@@ -119,7 +119,7 @@ module _ (s e : Key) (j k : Kind) where
   unfolding point_of
   end_ex_no_point h l = rw (h, l)
 
-  pub point_if_equal : {o : Order} {r : Bool} → j ≡ Included → k ≡ Included → o ≡ cmp_key s e → r ≡ is_equal o → point_if r s ≡ as_point (range_of j s k e)
+  pub point_if_equal : {o : Ordering} {r : Bool} → j ≡ Included → k ≡ Included → o ≡ cmp_key s e → r ≡ is_equal o → point_if r s ≡ as_point (range_of j s k e)
   unfolding point_of
   point_if_equal {o} h l c q = rw (h, l, ← c, q) (go (is_equal o))
     where

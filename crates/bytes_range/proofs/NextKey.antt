@@ -13,7 +13,7 @@ use borrow.Author.Tests.{eqb-false}
 use Rattle.base.specs.Pick.{pick}
 use Rattle.base.specs.Bytes.{Bytes, bytes_none, bytes_cons, bytes_tail}
 use Rattle.key.specs.Order.{Key, cmp_key, cmp_number}
-use Rattle.key.specs.declared.Order.TheVariants.{Less}
+use Rattle.std.specs.declared.cmp.Ordering.TheVariants.{Less}
 use Rattle.key.proofs.Linear.{cmp_self, number_linear, number_less}
 use Rattle.bytes_range.specs.Prefix.{kept_of, raised, next_prefix}
 use Rattle.bytes_range.specs.Laws.{NextPrefixAbove, NextPrefixIsNoLonger, NextPrefixIsBytes}

@@ -5,8 +5,8 @@ use mathlib.Core.Bool.{Bool, true, false, ◌&&◌}
 use mathlib.Core.Option.{none, some}
 use Rattle.base.specs.Pick.{pick}
 use Rattle.key.specs.Order.{Key, cmp_key, swap, at_most, is_equal}
-use Rattle.key.specs.declared.Order.{Order}
-use Rattle.key.specs.declared.Order.TheVariants.{Less, Equal, Greater}
+use Rattle.std.specs.declared.cmp.Ordering.{Ordering}
+use Rattle.std.specs.declared.cmp.Ordering.TheVariants.{Less, Equal, Greater}
 use Rattle.key.proofs.Linear.{key_order_is_total}
 use Rattle.comparable_range.specs.Range.{Bound, unbounded, included, excluded, start_holds, end_holds, holds}
 use Rattle.comparable_range.proofs.Keyless.{equal_keys}
@@ -16,7 +16,7 @@ use Rattle.bytes_range.specs.Laws.{PointHoldsItsKeyAlone}
 at_one_key : (k x : Key) → (at_most (cmp_key k x) && at_most (cmp_key x k)) ≡ is_equal (cmp_key x k)
 at_one_key k x = rw (key_order_is_total.swaps x k) (go (cmp_key x k))
   where
-    go : (o : Order) → (at_most (swap o) && at_most o) ≡ is_equal o
+    go : (o : Ordering) → (at_most (swap o) && at_most o) ≡ is_equal o
     go Less = refl
     go Equal = refl
     go Greater = refl

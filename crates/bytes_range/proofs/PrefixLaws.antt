@@ -7,7 +7,7 @@ use mathlib.Core.Bool.{true, not, ◌&&◌, and-true}
 use mathlib.Core.Option.{Option, none, some}
 use mathlib.Core.List.{[], ◌∷◌, ◌++◌, append-nil}
 use Rattle.key.specs.Order.{Key, cmp_key}
-use Rattle.key.specs.declared.Order.TheVariants.{Less}
+use Rattle.std.specs.declared.cmp.Ordering.TheVariants.{Less}
 use Rattle.key.proofs.Linear.{same_front}
 use Rattle.comparable_range.specs.Range.{Bound, unbounded, included, excluded, bounds_pass}
 use Rattle.bytes_range.specs.Prefix.{next_prefix, up_to, from_prefix, join_start, join_end, from_prefix_and_subrange}

@@ -3,7 +3,7 @@ use Rattle.std.specs.Prelude.{◌≤◌, ◌≡◌, Bool, true, false, not, ◌&
 use Rattle.std.proofs.Math.Option.{some}
 use Rattle.base.specs.Bytes.{Bytes}
 use Rattle.key.specs.Order.{Key, cmp_key, is_equal}
-use Rattle.key.specs.declared.Order.TheVariants.{Less}
+use Rattle.std.specs.declared.cmp.Ordering.TheVariants.{Less}
 use Rattle.comparable_range.specs.Range.{Bound, unbounded, included, excluded, Range, non_empty, holds}
 use Rattle.bytes_range.specs.Prefix.{next_prefix, from_prefix, from_prefix_and_subrange, as_point}
 

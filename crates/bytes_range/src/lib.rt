@@ -317,7 +317,7 @@ pub fn as_point(ks: Kind, s: &[u8], ke: Kind, e: &[u8]) -> bool
         Kind::Included => match ke {
             Kind::Unbounded => false,
             Kind::Excluded => false,
-            Kind::Included => key::is_equal(key::cmp(s, e)),
+            Kind::Included => key::cmp(s, e).is_eq(),
         },
     }
 }

@@ -12,8 +12,8 @@ use lib.Seq.{get_or-set_same, get_or-set_other}
 use borrow.Author.Tests.{eqb-true, eqb-false}
 use Rattle.base.specs.Pick.{pick}
 use Rattle.key.specs.Order.{cmp_key, is_equal}
-use Rattle.key.specs.declared.Order.{Order}
-use Rattle.key.specs.declared.Order.TheVariants.{Less, Equal, Greater}
+use Rattle.std.specs.declared.cmp.Ordering.{Ordering}
+use Rattle.std.specs.declared.cmp.Ordering.TheVariants.{Less, Equal, Greater}
 use Rattle.key.proofs.Linear.{key_order_is_total}
 use Rattle.records.specs.Values.{Table}
 use Rattle.records.specs.declared.ids.TableId.{TableId}
@@ -30,7 +30,7 @@ same_entry : (n : ℕ) (x y : TableId) → same_table_id x y ≡ true → entry_
 unfolding entry_of
 same_entry n x y e = go (cmp_key x.0 y.0) refl e
   where
-    go : (o : Order) → cmp_key x.0 y.0 ≡ o → is_equal o ≡ true → entry_of n x ≡ entry_of n y
+    go : (o : Ordering) → cmp_key x.0 y.0 ≡ o → is_equal o ≡ true → entry_of n x ≡ entry_of n y
     go Equal f e = rw (key_order_is_total.equal x.0 y.0 f)
     go Less f e = absurd (let z : ◌≡◌ {A = ℕ} 0 1 = cc in omega arith)
     go Greater f e = absurd (let z : ◌≡◌ {A = ℕ} 0 1 = cc in omega arith)

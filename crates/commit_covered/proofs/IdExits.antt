@@ -12,7 +12,7 @@ use mir.Val.{Fits}
 use mir.Syntax.{w64}
 use Rattle.key.specs.Order.{cmp_key, is_equal}
 use Rattle.key.specs.Word.{WordAt}
-use Rattle.key.specs.declared.Order.{Order}
+use Rattle.std.specs.declared.cmp.Ordering.{Ordering}
 use Rattle.records.specs.Values.{Table}
 use Rattle.records.specs.declared.ids.TableId.{TableId}
 use Rattle.incremental_progress.specs.Ids.{same_table_id}
@@ -106,7 +106,7 @@ module _ {s chain : List ℕ} {n : ℕ} {x : TableId} {ts : List Table} {left : 
     pub next_less : get_or chain ((left - 1) * 2 + 1) 0 < left
     next_less = omega (arith, here.count, (from_latest x here.chained).upto, (from_latest x here.chained).count, here.next)
 
-    module _ {y : TableId} (e : y.0 ≡ take 16 (drop (get_or chain ((left - 1) * 2) 0) s)) {o : Order} (f : o ≡ cmp_key x.0 y.0) {q : Bool} (d : q ≡ is_equal o) where
+    module _ {y : TableId} (e : y.0 ≡ take 16 (drop (get_or chain ((left - 1) * 2) 0) s)) {o : Ordering} (f : o ≡ cmp_key x.0 y.0) {q : Bool} (d : q ≡ is_equal o) where
       test : same_table_id x here.id ≡ q
       test = sym (d ∙ rw (f, e, here.is))
 

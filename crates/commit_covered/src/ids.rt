@@ -44,7 +44,7 @@ pub fn is_kept(job: &[u8], chain: &[usize], slots: &[usize], id: TableId) -> boo
         let row = (left - 1) * 2;
         let wanted = id.0;
         let other = records::table_id_at(job, chain[row]).0;
-        if key::is_equal(key::cmp(&wanted, &other)) {
+        if key::cmp(&wanted, &other).is_eq() {
             return true;
         }
         left = chain[row + 1];

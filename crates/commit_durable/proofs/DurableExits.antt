@@ -9,7 +9,7 @@ use lib.ListN.{take, drop}
 use native.Mathlib.Omega.{arith}
 use Rattle.base.specs.Pick.{pick}
 use Rattle.key.specs.Order.{Key, cmp_key, is_equal}
-use Rattle.key.specs.declared.Order.{Order}
+use Rattle.std.specs.declared.cmp.Ordering.{Ordering}
 use Rattle.comparable_range.specs.Range.{bound_of}
 use Rattle.comparable_range.specs.Factors.{is_keyed}
 use Rattle.comparable_range.specs.declared.Kind.{Kind}
@@ -35,7 +35,7 @@ pub ruleset kind_exits = (kind_set, kind_stays)
 
 -- ---- is_key
 pub key_is :
-    (s : List ℕ) (b k : BoundSpan) {x y : Key} {o : Order} {u t r : Bool}
+    (s : List ℕ) (b k : BoundSpan) {x y : Key} {o : Ordering} {u t r : Bool}
     → x ≡ take b.len (drop b.at s)
     → y ≡ take k.len (drop k.at s)
     → o ≡ cmp_key x y

@@ -8,7 +8,7 @@ use mathlib.Core.Bool.{Bool, true, false, ◌&&◌, and-true, and-false}
 use mathlib.Core.List.{List, [], ◌∷◌, ◌++◌}
 use lib.ListN.{length, take, drop}
 use Rattle.key.specs.Order.{Key, at_most}
-use Rattle.key.specs.declared.Order.{Order}
+use Rattle.std.specs.declared.cmp.Ordering.{Ordering}
 use Rattle.comparable_range.specs.Range.{bound_of, cmp_bound}
 use Rattle.comparable_range.specs.Cut.{Cut, before, after, above, cut_at_most, start_cut, end_cut}
 use Rattle.format.specs.Range.{bound_in, BoundInside}
@@ -68,13 +68,13 @@ module _ (s : List ℕ) (i j : BoundSpan) (t : TableSpan) where
   pub last_in_lem : {l : BoundSpan} → l ≡ last_span t → TableInside s t → BoundInside s l
   last_in_lem e p = rw e p.last
 
-  module _ {f : BoundSpan} {o : Order} {a : Bool} (d : f ≡ first_span t) (g : o ≡ cmp_bound true (bound_in s i) (bound_in s f)) (h : a ≡ at_most o) where
+  module _ {f : BoundSpan} {o : Ordering} {a : Bool} (d : f ≡ first_span t) (g : o ≡ cmp_bound true (bound_in s i) (bound_in s f)) (h : a ≡ at_most o) where
     begins : cut_at_most (start_cut (bound_in s i)) (before (table_in s t).first) ≡ a
     begins =
         sym (h ∙ ap at_most g ∙ starts_by_cuts (bound_in s i) (bound_in s f) ∙ ap (λ m. cut_at_most (start_cut (bound_in s i)) (start_cut (bound_in s m))) d)
 
     pub between :
-        {l : BoundSpan} {u : Order} {b c r : Bool}
+        {l : BoundSpan} {u : Ordering} {b c r : Bool}
         → l ≡ last_span t
         → u ≡ cmp_bound false (bound_in s l) (bound_in s j)
         → b ≡ at_most u

@@ -32,7 +32,7 @@ fn is_key(job: &[u8], b: BoundSpan, k: BoundSpan) -> bool
     ensures { result ≡ is_key (key_of (bound_in job.now b)) (take k.len (drop k.at job.now)) }
 {
     let kind = b.kind;
-    let equal = key::is_equal(key::cmp(format::key_of(job, b), format::key_of(job, k)));
+    let equal = key::cmp(format::key_of(job, b), format::key_of(job, k)).is_eq();
     both(keyed(kind), equal)
 }
 

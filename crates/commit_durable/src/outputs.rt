@@ -44,8 +44,8 @@ fn output_between(job: &[u8], start: BoundSpan, end: BoundSpan, t: TableSpan) ->
     requires fact_3 { TableInside job.now t }
     ensures { result ≡ output_between (end_cut (bound_in job.now end)) (start_cut (bound_in job.now start)) (table_in job.now t) }
 {
-    let begins = key::at_most(span::compare(job, start, job, own_start(t), true));
-    let ends = key::at_most(span::compare(job, own_end(t), job, end, false));
+    let begins = span::compare(job, start, job, own_start(t), true).is_le();
+    let ends = span::compare(job, own_end(t), job, end, false).is_le();
     both(begins, both(ends, t.flagged))
 }
 

@@ -7,8 +7,8 @@ use mathlib.Core.Bool.{Bool, true, false, ◌&&◌}
 use mathlib.Core.Option.{none, some}
 use Rattle.base.specs.Pick.{pick}
 use Rattle.key.specs.Order.{swap, is_equal, is_less, at_most}
-use Rattle.key.specs.declared.Order.{Order}
-use Rattle.key.specs.declared.Order.TheVariants.{Less, Equal, Greater}
+use Rattle.std.specs.declared.cmp.Ordering.{Ordering}
+use Rattle.std.specs.declared.cmp.Ordering.TheVariants.{Less, Equal, Greater}
 use Rattle.comparable_range.specs.Range.{Bound, Range, of, supplied, cmp_bound, non_empty, start_side, end_side, intersect_sides, intersect}
 use Rattle.comparable_range.specs.Cut.{cut_at_most, ◌≼◌, later, start_cut, end_cut}
 use Rattle.comparable_range.specs.declared.Side.{Side}
@@ -34,7 +34,7 @@ first_end : (a b : Bound) → end_side a b ≡ First → end_cut a ≼ end_cut b
 unfolding end_side cut_at_most
 first_end a b e = go (cmp_bound false a b) refl e
   where
-    go : (o : Order) → cmp_bound false a b ≡ o → pick (at_most o) First Second ≡ First → end_cut a ≼ end_cut b
+    go : (o : Ordering) → cmp_bound false a b ≡ o → pick (at_most o) First Second ≡ First → end_cut a ≼ end_cut b
     go Less f e = record { holds = rw (← cmp_end a b, f) }
     go Equal f e = record { holds = rw (← cmp_end a b, f) }
     go Greater f e = absurd (let z : ◌≡◌ {A = ℕ} 0 1 = cc in omega arith)
@@ -43,7 +43,7 @@ second_end : (a b : Bound) → end_side a b ≡ Second → is_equal (cmp_bound f
 unfolding end_side
 second_end a b e = go (cmp_bound false a b) refl e
   where
-    go : (o : Order) → cmp_bound false a b ≡ o → pick (at_most o) First Second ≡ Second → is_equal (cmp_bound false b a) ≡ false
+    go : (o : Ordering) → cmp_bound false a b ≡ o → pick (at_most o) First Second ≡ Second → is_equal (cmp_bound false b a) ≡ false
     go Less f e = cc
     go Equal f e = cc
     go Greater f e = rw (end_swaps a b, f)
@@ -94,7 +94,7 @@ not_before : (a b : Bound) → is_less (cmp_bound true a b) ≡ false → start_
 unfolding cut_at_most
 not_before a b e = record { holds = rw (← cmp_start b a, start_swaps a b) (go (cmp_bound true a b) e) }
   where
-    go : (o : Order) → is_less o ≡ false → at_most (swap o) ≡ true
+    go : (o : Ordering) → is_less o ≡ false → at_most (swap o) ≡ true
     go Less f = sym f
     go Equal f = refl
     go Greater f = refl
@@ -127,10 +127,10 @@ module _ (r g : Range) {a : Side} (p : StartsWithin r g a) where
 pub ruleset within_exits = (within_whole, within_through, within_behind)
 
 -- ---- which of the two it is
-pub starts_before : (a b : Bound) {o : Order} → o ≡ cmp_bound true a b → o ≡ Less → cmp_bound true a b ≡ Less
+pub starts_before : (a b : Bound) {o : Ordering} → o ≡ cmp_bound true a b → o ≡ Less → cmp_bound true a b ≡ Less
 starts_before a b e f = sym e ∙ f
 
-module _ (r g : Range) {o : Order} (e : o ≡ cmp_bound true r.start g.start) where
+module _ (r g : Range) {o : Ordering} (e : o ≡ cmp_bound true r.start g.start) where
   pub starts_alike : o ≡ Equal → non_empty r ≡ true → StartsWithin r g Second
   unfolding start_side
   starts_alike f n = record { passes = n; later = rw (← e, f); is = rw (← e, f) }

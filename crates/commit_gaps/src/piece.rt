@@ -1,6 +1,6 @@
 // What of a range lies in one gap. The range passes `non_empty` and stands in the image; the gap's bounds stand in the job.
 ghost use Rattle.std.specs.Prelude.{◌≡◌, true};
-ghost use Rattle.key.specs.declared.Order.TheVariants.{Less};
+ghost use Rattle.std.specs.declared.cmp.Ordering.TheVariants.{Less};
 ghost use Rattle.comparable_range.specs.Range.{non_empty, cmp_bound};
 ghost use Rattle.format.specs.Range.{bound_in, range_in};
 ghost use Rattle.commit_gaps.specs.Found.{Inside, StartsWithin, MeetingIs};
@@ -8,7 +8,7 @@ ghost use Rattle.commit_gaps.specs.Found.{Inside, StartsWithin, MeetingIs};
 use comparable_range::Side;
 use format::span;
 use format::span::RangeSpan;
-use key::Order;
+use std::cmp::Ordering;
 
 // All that the range is, or a part of which each bound is the range's (first) or the gap's (second).
 #[derive(Clone, Copy)]
@@ -89,8 +89,8 @@ pub fn meet<'a>(image: &'a [u8], range: RangeSpan, job: &'a [u8], gap: RangeSpan
     let start = range.start;
     let from = gap.start;
     match span::compare(image, start, job, from, true) {
-        Order::Less => meeting_ahead(image, range, job, gap),
-        Order::Equal => meeting_within(image, range, job, gap, Side::Second),
-        Order::Greater => meeting_within(image, range, job, gap, Side::First),
+        Ordering::Less => meeting_ahead(image, range, job, gap),
+        Ordering::Equal => meeting_within(image, range, job, gap, Side::Second),
+        Ordering::Greater => meeting_within(image, range, job, gap, Side::First),
     }
 }

@@ -11,8 +11,8 @@ use lib.Dec.{eqb}
 use lib.Pointwise.{pointwise, bytes_decides}
 use Rattle.base.specs.Pick.{pick}
 use Rattle.key.specs.Order.{cmp_key, is_equal}
-use Rattle.key.specs.declared.Order.{Order}
-use Rattle.key.specs.declared.Order.TheVariants.{Less, Equal, Greater}
+use Rattle.std.specs.declared.cmp.Ordering.{Ordering}
+use Rattle.std.specs.declared.cmp.Ordering.TheVariants.{Less, Equal, Greater}
 use Rattle.key.proofs.Linear.{key_order_is_total, key_self, same_front}
 use Rattle.records.specs.declared.ids.ViewId.{ViewId}
 use Rattle.incremental_progress.specs.Draws.{Ten, tens, supply, got, is_old, draw}
@@ -45,7 +45,7 @@ same_bytes a b = go (cmp_key a b) refl
     other n true e = absurd (n (let z : a ≡ b = (bytes_decides a b).0 (sym e) in rw z (key_self b)))
     other n false e = refl
 
-    go : (o : Order) → cmp_key a b ≡ o → pointwise eqb a b ≡ is_equal (cmp_key a b)
+    go : (o : Ordering) → cmp_key a b ≡ o → pointwise eqb a b ≡ is_equal (cmp_key a b)
     go Less e = rw e (other (λ f. cc) (pointwise eqb a b) refl)
     go Equal e = rw e ((bytes_decides a b).1 (key_order_is_total.equal a b e))
     go Greater e = rw e (other (λ f. cc) (pointwise eqb a b) refl)

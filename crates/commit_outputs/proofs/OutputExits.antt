@@ -10,7 +10,7 @@ use lib.ListN.{length, take, drop}
 use Rattle.base.specs.Bytes.{Bytes}
 use Rattle.base.specs.Pick.{pick}
 use Rattle.key.specs.Order.{Key, cmp_key, is_equal}
-use Rattle.key.specs.declared.Order.{Order}
+use Rattle.std.specs.declared.cmp.Ordering.{Ordering}
 use Rattle.comparable_range.specs.Range.{Range, bound_of, non_empty, overlap}
 use Rattle.format.specs.Range.{bound_in, range_in, BoundInside, write_range}
 use Rattle.format.specs.declared.range.BoundSpan.{BoundSpan}
@@ -77,7 +77,7 @@ module _ (s : List ℕ) (t : TableSpan) (b : BoundSpan) where
   no_last e = rw e
 
   pub last_is :
-      {x y : Key} {o : Order} {r : Bool}
+      {x y : Key} {o : Ordering} {r : Bool}
       → t.flagged ≡ true
       → x ≡ key_in s t.last_at t.last_len
       → y ≡ key_in s b.at b.len

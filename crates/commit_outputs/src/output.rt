@@ -54,7 +54,7 @@ fn ends_at(job: &[u8], t: TableSpan, b: BoundSpan) -> bool
         at: t.last_at,
         len: t.last_len,
     };
-    t.flagged && key::is_equal(key::cmp(format::key_of(job, last), format::key_of(job, b)))
+    t.flagged && key::cmp(format::key_of(job, last), format::key_of(job, b)).is_eq()
 }
 
 // What is published of an output: if its part is not completed, the interval ends at the last written key, and the outputs

@@ -5,8 +5,8 @@ use mathlib.Core.Path.{◌≡◌, refl, sym, ap, ◌∙◌}
 use mathlib.Core.Bool.{Bool, true, false, not, ◌&&◌}
 use Rattle.base.specs.Pick.{pick}
 use Rattle.key.specs.Order.{Key, cmp_key, cmp_number, or_else, at_most, is_less}
-use Rattle.key.specs.declared.Order.{Order}
-use Rattle.key.specs.declared.Order.TheVariants.{Less, Equal, Greater}
+use Rattle.std.specs.declared.cmp.Ordering.{Ordering}
+use Rattle.std.specs.declared.cmp.Ordering.TheVariants.{Less, Equal, Greater}
 use Rattle.key.proofs.Linear.{or_else_end, sign_swap}
 use Rattle.comparable_range.specs.declared.Side.TheVariants.{First, Second}
 use Rattle.comparable_range.specs.Range.{Bound, unbounded, included, excluded, Range, of, cmp_bound, bounds_pass, start_holds, end_holds, holds, start_side, end_side, greater_end_side}
@@ -50,12 +50,12 @@ cmp_bound_negates start a b =
     rw (cmp_bound_by_cuts start b a, cmp_bound_by_cuts start a b, cut_order_is_total.swaps c d) (sign_swap (cmp_cut c d))
 
 -- ---- the test
-less_tie : (o : Order) → at_most o ≡ is_less (or_else o Less)
+less_tie : (o : Ordering) → at_most o ≡ is_less (or_else o Less)
 less_tie Less = refl
 less_tie Equal = refl
 less_tie Greater = refl
 
-greater_tie : (o : Order) → is_less o ≡ is_less (or_else o Greater)
+greater_tie : (o : Ordering) → is_less o ≡ is_less (or_else o Greater)
 greater_tie Less = refl
 greater_tie Equal = refl
 greater_tie Greater = refl
@@ -76,7 +76,7 @@ pub non_empty_by_cuts : NonEmptyByCuts
 non_empty_by_cuts r = passes_by_cuts r.start r.end
 
 -- ---- the keys held
-strict : (o : Order) → is_less o ≡ at_most (or_else o Greater)
+strict : (o : Ordering) → is_less o ≡ at_most (or_else o Greater)
 strict Less = refl
 strict Equal = refl
 strict Greater = refl

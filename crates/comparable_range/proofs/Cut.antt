@@ -6,8 +6,8 @@ use mathlib.Core.Logic.{◌⊎◌, inl, inr}
 use mathlib.Core.Bool.{Bool, true, false, not, false≢true}
 use Rattle.key.specs.Order.{Key, cmp_key, cmp_number, swap, or_else, at_most, is_less}
 use Rattle.key.specs.Laws.{Linear}
-use Rattle.key.specs.declared.Order.{Order}
-use Rattle.key.specs.declared.Order.TheVariants.{Less, Equal, Greater}
+use Rattle.std.specs.declared.cmp.Ordering.{Ordering}
+use Rattle.std.specs.declared.cmp.Ordering.TheVariants.{Less, Equal, Greater}
 use Rattle.key.proofs.Linear.{swap_or_else, or_else_equal, or_else_trans, cmp_self, number_linear, key_order_is_total, key_self}
 use Rattle.comparable_range.specs.Cut.{Cut, below, before, after, above, level, spot, side, cmp_cut, cut_at_most, cut_below, ◌≼◌, ◌≺◌}
 
@@ -58,7 +58,7 @@ pub cut_below_not : (c d : Cut) → cut_below c d ≡ not (cut_at_most d c)
 unfolding cut_below cut_at_most
 cut_below_not c d = rw (cut_swaps c d) (go (cmp_cut c d))
   where
-    go : (o : Order) → is_less o ≡ not (at_most (swap o))
+    go : (o : Ordering) → is_less o ≡ not (at_most (swap o))
     go Less = refl
     go Equal = refl
     go Greater = refl
@@ -71,7 +71,7 @@ pub ≼-antisym : {c d : Cut} → c ≼ d → d ≼ c → c ≡ d
 unfolding cut_at_most
 ≼-antisym {c} {d} h k = go (cmp_cut c d) refl h.holds (ap at_most (sym (cut_swaps c d)) ∙ k.holds)
   where
-    go : (o : Order) → cmp_cut c d ≡ o → at_most o ≡ true → at_most (swap o) ≡ true → c ≡ d
+    go : (o : Ordering) → cmp_cut c d ≡ o → at_most o ≡ true → at_most (swap o) ≡ true → c ≡ d
     go Less e h k = cc
     go Equal e h k = cut_equal c d e
     go Greater e h k = cc
@@ -80,7 +80,7 @@ pub ≼_trans : {a b c : Cut} → a ≼ b → b ≼ c → a ≼ c
 unfolding cut_at_most
 ≼_trans {a} {b} {c} h k = go (cmp_cut a b) (cmp_cut b c) refl refl h.holds k.holds
   where
-    go : (o₁ o₂ : Order) → cmp_cut a b ≡ o₁ → cmp_cut b c ≡ o₂ → at_most o₁ ≡ true → at_most o₂ ≡ true → a ≼ c
+    go : (o₁ o₂ : Ordering) → cmp_cut a b ≡ o₁ → cmp_cut b c ≡ o₂ → at_most o₁ ≡ true → at_most o₂ ≡ true → a ≼ c
     go Less Less e₁ e₂ h k = record { holds = rw (cut_trans a b c e₁ e₂) }
     go Less Equal e₁ e₂ h k = record { holds = rw (← cut_equal b c e₂, e₁) }
     go Less Greater e₁ e₂ h k = record { holds = cc }
@@ -95,7 +95,7 @@ pub ≺-≼ : {c d : Cut} → c ≺ d → c ≼ d
 unfolding cut_at_most
 ≺-≼ {c} {d} h = record { holds = go (cmp_cut d c) (cut_swaps d c) h.fails }
   where
-    go : (o : Order) → cmp_cut c d ≡ swap o → at_most o ≡ false → at_most (cmp_cut c d) ≡ true
+    go : (o : Ordering) → cmp_cut c d ≡ swap o → at_most o ≡ false → at_most (cmp_cut c d) ≡ true
     go Less e h = cc
     go Equal e h = cc
     go Greater e h = rw e
@@ -150,13 +150,13 @@ no_cut_between below x = refl
 no_cut_between above x = refl
 no_cut_between (before k) x = rw (key_order_is_total.swaps k x) (go (cmp_key k x))
   where
-    go : (o : Order) → at_most (or_else (swap o) Greater) ≡ not (at_most (or_else o Equal))
+    go : (o : Ordering) → at_most (or_else (swap o) Greater) ≡ not (at_most (or_else o Equal))
     go Less = refl
     go Equal = refl
     go Greater = refl
 no_cut_between (after k) x = rw (key_order_is_total.swaps k x) (go (cmp_key k x))
   where
-    go : (o : Order) → at_most (or_else (swap o) Equal) ≡ not (at_most (or_else o Greater))
+    go : (o : Ordering) → at_most (or_else (swap o) Equal) ≡ not (at_most (or_else o Greater))
     go Less = refl
     go Equal = refl
     go Greater = refl

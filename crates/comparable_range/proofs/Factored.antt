@@ -3,8 +3,8 @@
 use mathlib.Core.Path.{◌≡◌, refl, ◌∙◌}
 use mathlib.Core.Bool.{Bool, true, false}
 use Rattle.key.specs.Order.{Key, cmp_key, or_else, at_most, is_less}
-use Rattle.key.specs.declared.Order.{Order}
-use Rattle.key.specs.declared.Order.TheVariants.{Less, Equal, Greater}
+use Rattle.std.specs.declared.cmp.Ordering.{Ordering}
+use Rattle.std.specs.declared.cmp.Ordering.TheVariants.{Less, Equal, Greater}
 use Rattle.key.proofs.Linear.{or_else_end}
 use Rattle.comparable_range.specs.Range.{Range, bound_of, range_of, supplied, of, cmp_bound, bounds_pass, non_empty, start_side, end_side, intersect_sides}
 use Rattle.comparable_range.specs.Factors.{tie, key_order, passes}
@@ -12,7 +12,7 @@ use Rattle.comparable_range.specs.declared.Kind.{Kind}
 use Rattle.comparable_range.specs.declared.Kind.TheVariants.{Unbounded, Included, Excluded}
 use Rattle.comparable_range.specs.declared.Side.{Side}
 use Rattle.comparable_range.specs.declared.Side.TheVariants.{First, Second}
-use Rattle.comparable_range.specs.declared.Sides.TheVariants.{Nothing, From}
+use Rattle.std.specs.Prelude.{None, Some}
 
 -- ---- the order of bounds
 module _ (a b : Key) where
@@ -36,35 +36,35 @@ module _ (a b : Key) where
   pass_factored Included Unbounded = refl
   pass_factored Included Included = go (cmp_key a b)
     where
-      go : (o : Order) → passes Included Included o ≡ at_most o
+      go : (o : Ordering) → passes Included Included o ≡ at_most o
       go Less = refl
       go Equal = refl
       go Greater = refl
   pass_factored Included Excluded = go (cmp_key a b)
     where
-      go : (o : Order) → passes Included Excluded o ≡ is_less o
+      go : (o : Ordering) → passes Included Excluded o ≡ is_less o
       go Less = refl
       go Equal = refl
       go Greater = refl
   pass_factored Excluded Unbounded = refl
   pass_factored Excluded Included = go (cmp_key a b)
     where
-      go : (o : Order) → passes Excluded Included o ≡ is_less o
+      go : (o : Ordering) → passes Excluded Included o ≡ is_less o
       go Less = refl
       go Equal = refl
       go Greater = refl
   pass_factored Excluded Excluded = go (cmp_key a b)
     where
-      go : (o : Order) → passes Excluded Excluded o ≡ is_less o
+      go : (o : Ordering) → passes Excluded Excluded o ≡ is_less o
       go Less = refl
       go Equal = refl
       go Greater = refl
 
   -- `cmp_bound`, `non_empty`
-  pub bounds_compared : (start : Bool) (ka kb : Kind) {o p r : Order} → o ≡ key_order ka a kb b → p ≡ tie start ka kb → r ≡ or_else o p → r ≡ cmp_bound start (bound_of ka a) (bound_of kb b)
+  pub bounds_compared : (start : Bool) (ka kb : Kind) {o p r : Ordering} → o ≡ key_order ka a kb b → p ≡ tie start ka kb → r ≡ or_else o p → r ≡ cmp_bound start (bound_of ka a) (bound_of kb b)
   bounds_compared start ka kb e f g = g ∙ rw (e, f) (cmp_factored start ka kb)
 
-  pub bounds_tested : (ka kb : Kind) {o : Order} {r : Bool} → o ≡ key_order ka a kb b → r ≡ passes ka kb o → r ≡ bounds_pass (bound_of ka a) (bound_of kb b)
+  pub bounds_tested : (ka kb : Kind) {o : Ordering} {r : Bool} → o ≡ key_order ka a kb b → r ≡ passes ka kb o → r ≡ bounds_pass (bound_of ka a) (bound_of kb b)
   bounds_tested ka kb e g = g ∙ rw e (pass_factored ka kb)
 
 -- ---- two ranges
@@ -86,11 +86,11 @@ module _ (ks : Kind) (s : Key) (ke : Kind) (e : Key) (js : Kind) (t : Key) (je :
     supplied_tested : w ≡ non_empty (supplied r q u v)
     supplied_tested = h ∙ rw (a, b, c, d, of_bound u ks js s t, of_bound v ke je e f)
 
-    pub met : w ≡ true → From u v ≡ intersect_sides r q
+    pub met : w ≡ true → Some (u, v) ≡ intersect_sides r q
     unfolding intersect_sides
     met k = rw (← hu, ← hv, ← supplied_tested, k)
 
-    pub apart : w ≡ false → Nothing ≡ intersect_sides r q
+    pub apart : w ≡ false → None ≡ intersect_sides r q
     unfolding intersect_sides
     apart k = rw (← hu, ← hv, ← supplied_tested, k)
 

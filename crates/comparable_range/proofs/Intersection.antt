@@ -6,7 +6,7 @@ use mathlib.Core.Bool.{Bool, true, false, not, ◌&&◌}
 use mathlib.Core.Option.{Option, none, some}
 use Rattle.base.specs.Pick.{pick}
 use Rattle.key.specs.Order.{Key}
-use Rattle.comparable_range.specs.declared.Sides.TheVariants.{Nothing, From}
+use Rattle.std.specs.Prelude.{None, Some}
 use Rattle.comparable_range.specs.Range.{Bound, Range, of, non_empty, holds, start_side, end_side, chosen, overlap, intersect, intersect_sides}
 use Rattle.comparable_range.specs.Cut.{before, after, cut_at_most, start_cut, end_cut}
 use Rattle.comparable_range.specs.Laws.{held_by, is_none, IntersectHoldsWhatBothHold, IntersectIsNoneWhereBoundsFail, IntersectCommutes}
@@ -24,7 +24,7 @@ intersect_is r q = go (non_empty (overlap r q))
   where
     go :
         (t : Bool)
-        → chosen r q (pick t (From (start_side r.start q.start) (end_side r.end q.end)) Nothing)
+        → chosen r q (pick t (Some (start_side r.start q.start, end_side r.end q.end)) None)
         ≡ pick t (some (overlap r q)) none
     go true = refl
     go false = refl

@@ -9,8 +9,8 @@ use mathlib.Core.Bool.{Bool, true, false, false≢true}
 use mathlib.Core.List.{[], ◌∷◌, ◌++◌}
 use Rattle.base.specs.Bytes.{Bytes, bytes_none, bytes_cons, bytes_append}
 use Rattle.key.specs.Order.{Key, cmp_key, cmp_number, or_else, at_most, is_equal}
-use Rattle.key.specs.declared.Order.{Order}
-use Rattle.key.specs.declared.Order.TheVariants.{Less, Equal, Greater}
+use Rattle.std.specs.declared.cmp.Ordering.{Ordering}
+use Rattle.std.specs.declared.cmp.Ordering.TheVariants.{Less, Equal, Greater}
 use Rattle.key.proofs.Linear.{key_order_is_total, key_self, or_else_end, number_less, proper_prefix_comes_first}
 use Rattle.comparable_range.specs.Range.{Bound, unbounded, included, excluded, Range, holds}
 use Rattle.comparable_range.specs.Cut.{Cut, before, after, cmp_cut, cut_at_most, ◌≼◌, ◌≺◌, start_cut, end_cut}
@@ -29,7 +29,7 @@ next (b ∷ k) [] e = cc
 next (b ∷ k) (y ∷ x) e = go (cmp_number b y) e (λ d. next k x d)
   where
     go :
-        (o : Order)
+        (o : Ordering)
         → or_else o (cmp_key k x) ≡ Less
         → (cmp_key k x ≡ Less → at_most (cmp_key (k ++ 0 ∷ []) x) ≡ true)
         → at_most (or_else o (cmp_key (k ++ 0 ∷ []) x)) ≡ true
@@ -43,7 +43,7 @@ unfolding cut_at_most cmp_cut cmp_number
 next-≼ k x h = record { holds = go (cmp_key k x) refl h.holds }
   where
     go :
-        (o : Order)
+        (o : Ordering)
         → cmp_key k x ≡ o
         → at_most (or_else o Greater) ≡ true
         → at_most (or_else (cmp_key (k ++ 0 ∷ []) x) Equal) ≡ true
@@ -64,7 +64,7 @@ first-≼ (b ∷ x) = record { holds = refl }
 pub equal_keys : (a b : Key) → is_equal (cmp_key a b) ≡ true → a ≡ b
 equal_keys a b h = key_order_is_total.equal a b (go (cmp_key a b) h)
   where
-    go : (o : Order) → is_equal o ≡ true → o ≡ Equal
+    go : (o : Ordering) → is_equal o ≡ true → o ≡ Equal
     go Less h = cc
     go Equal h = refl
     go Greater h = cc

@@ -7,12 +7,12 @@ use mathlib.Core.Bool.{Bool, true, false, not, ◌&&◌, ◌||◌, false≢true,
 use mathlib.Core.Option.{Option, some}
 use Rattle.base.specs.Pick.{pick}
 use Rattle.key.specs.Order.{Key, cmp_key, cmp_number, swap, or_else, at_most, is_less, is_equal}
-use Rattle.key.specs.declared.Order.{Order}
-use Rattle.key.specs.declared.Order.TheVariants.{Less, Equal, Greater}
+use Rattle.std.specs.declared.cmp.Ordering.{Ordering}
+use Rattle.std.specs.declared.cmp.Ordering.TheVariants.{Less, Equal, Greater}
 use Rattle.key.proofs.Linear.{or_else_end, or_else_equal, swap_or_else, cmp_self}
 use Rattle.comparable_range.specs.declared.Side.TheVariants.{First, Second}
-use Rattle.comparable_range.specs.declared.Sides.{Sides}
-use Rattle.comparable_range.specs.declared.Sides.TheVariants.{Nothing, From}
+use Rattle.comparable_range.specs.Range.{Sides}
+use Rattle.std.specs.Prelude.{None, Some}
 use Rattle.comparable_range.specs.Range.{Bound, unbounded, included, excluded, Range, non_empty, holds, supplied, chosen, start_side, end_side, overlap, intersect_sides, are_adjacent, cmp_range, meets, greater_end_side, unite_sides, exchanged, union_sides, union}
 use Rattle.comparable_range.specs.Cut.{Cut, before, after, cmp_cut, cut_at_most, cut_below, ◌≼◌, ◌≺◌, sooner, start_cut, end_cut}
 use Rattle.comparable_range.specs.Laws.{held_by, is_none, lesser_of, greater_of, UnionHoldsWhatEitherHolds, UnionCommutes, UnionIsNoneWhereApart}
@@ -32,11 +32,11 @@ unite : Range → Range → Option Range
 unite r q = chosen r q (unite_sides r q)
 
 chosen_exchanged : (r q : Range) (s : Sides) → chosen r q (exchanged s) ≡ chosen q r s
-chosen_exchanged r q Nothing = refl
-chosen_exchanged r q (From First First) = refl
-chosen_exchanged r q (From First Second) = refl
-chosen_exchanged r q (From Second First) = refl
-chosen_exchanged r q (From Second Second) = refl
+chosen_exchanged r q None = refl
+chosen_exchanged r q (Some (First, First)) = refl
+chosen_exchanged r q (Some (First, Second)) = refl
+chosen_exchanged r q (Some (Second, First)) = refl
+chosen_exchanged r q (Some (Second, Second)) = refl
 
 union_is : (r q : Range) → union r q ≡ unite (lesser_of r q) (greater_of r q)
 unfolding union_sides unite
@@ -53,20 +53,20 @@ cmp_range_by_cuts : (r q : Range) → cmp_range r q ≡ or_else (cmp_cut (from r
 unfolding cmp_range
 cmp_range_by_cuts r q = rw (cmp_start, cmp_end)
 
-less-≼ : (c d : Cut) (p : Order) → is_less (or_else (cmp_cut c d) p) ≡ true → c ≼ d
+less-≼ : (c d : Cut) (p : Ordering) → is_less (or_else (cmp_cut c d) p) ≡ true → c ≼ d
 unfolding cut_at_most
 less-≼ c d p h = record { holds = go (cmp_cut c d) h }
   where
-    go : (o : Order) → is_less (or_else o p) ≡ true → at_most o ≡ true
+    go : (o : Ordering) → is_less (or_else o p) ≡ true → at_most o ≡ true
     go Less e = refl
     go Equal e = refl
     go Greater e = e
 
-not-less-≼ : (c d : Cut) (p : Order) → is_less (or_else (cmp_cut c d) p) ≡ false → d ≼ c
+not-less-≼ : (c d : Cut) (p : Ordering) → is_less (or_else (cmp_cut c d) p) ≡ false → d ≼ c
 unfolding cut_at_most
 not-less-≼ c d p h = record { holds = rw (cut_order_is_total.swaps c d) (go (cmp_cut c d) h) }
   where
-    go : (o : Order) → is_less (or_else o p) ≡ false → at_most (swap o) ≡ true
+    go : (o : Ordering) → is_less (or_else o p) ≡ false → at_most (swap o) ≡ true
     go Less e = sym e
     go Equal e = refl
     go Greater e = refl
@@ -85,12 +85,12 @@ pick_both P true h k = h
 pick_both P false h k = k
 
 -- ---- which are joined
-unequal_after : (o : Order) → false ≡ is_equal (or_else o Greater)
+unequal_after : (o : Ordering) → false ≡ is_equal (or_else o Greater)
 unequal_after Less = refl
 unequal_after Equal = refl
 unequal_after Greater = refl
 
-unequal_before : (o : Order) → false ≡ is_equal (or_else o Less)
+unequal_before : (o : Ordering) → false ≡ is_equal (or_else o Less)
 unequal_before Less = refl
 unequal_before Equal = refl
 unequal_before Greater = refl
@@ -113,7 +113,7 @@ pub meets_is : (r q : Range) → meets (intersect_sides r q) ≡ non_empty (over
 unfolding intersect_sides
 meets_is r q = go (non_empty (overlap r q))
   where
-    go : (t : Bool) → meets (pick t (From (start_side r.start q.start) (end_side r.end q.end)) Nothing) ≡ t
+    go : (t : Bool) → meets (pick t (Some (start_side r.start q.start, end_side r.end q.end)) None) ≡ t
     go true = refl
     go false = refl
 
@@ -130,7 +130,7 @@ unequal_cuts : {c d : Cut} → c ≺ d → is_equal (cmp_cut c d) ≡ false
 unfolding cut_below
 unequal_cuts {c} {d} h = go (cmp_cut c d) (below-of-≺ h)
   where
-    go : (o : Order) → is_less o ≡ true → is_equal o ≡ false
+    go : (o : Ordering) → is_less o ≡ true → is_equal o ≡ false
     go Less e = refl
     go Equal e = sym e
     go Greater e = refl
@@ -161,7 +161,7 @@ unite_none : (r q : Range) → is_none (unite r q) ≡ not (joined r q)
 unfolding unite unite_sides
 unite_none r q = go (joined r q)
   where
-    go : (t : Bool) → is_none (chosen r q (pick t (From First (greater_end_side r.end q.end)) Nothing)) ≡ not t
+    go : (t : Bool) → is_none (chosen r q (pick t (Some (First, greater_end_side r.end q.end)) None)) ≡ not t
     go true = refl
     go false = refl
 
@@ -210,7 +210,7 @@ unite_is r q u h e x = go (joined r q) refl e
     go :
         (t : Bool)
         → joined r q ≡ t
-        → chosen r q (pick t (From First (greater_end_side r.end q.end)) Nothing) ≡ some u
+        → chosen r q (pick t (Some (First, greater_end_side r.end q.end)) None) ≡ some u
         → holds u x ≡ (holds r x || holds q x)
     go true j e = ap (λ o. held_by o x) (sym e) ∙ unite_holds r q h (joined_near r q h j) x
     go false j e = cc
@@ -240,7 +240,7 @@ pub union_commutes : UnionCommutes
 union_commutes r q = rw (union_is r q, union_is q r, cmp_range_swaps r q) (go (cmp_range r q) refl)
   where
     go :
-        (o : Order)
+        (o : Ordering)
         → cmp_range r q ≡ o
         → unite (pick (is_less o) r q) (pick (is_less o) q r) ≡ unite (pick (is_less (swap o)) q r) (pick (is_less (swap o)) r q)
     go Less e = refl

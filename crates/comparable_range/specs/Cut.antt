@@ -2,7 +2,7 @@
 use Rattle.std.specs.Prelude.{ℕ, ◌≡◌, Bool, true, false, []}
 use Rattle.base.specs.Pick.{pick}
 use Rattle.key.specs.Order.{Key, cmp_key, cmp_number, or_else, at_most, is_less}
-use Rattle.key.specs.declared.Order.{Order}
+use Rattle.std.specs.declared.cmp.Ordering.{Ordering}
 use Rattle.comparable_range.specs.Range.{Bound, unbounded, included, excluded}
 
 pub data Cut : Type 0 where
@@ -32,7 +32,7 @@ side (before k) = 0
 side (after k) = 1
 side above = 0
 
-unfoldable pub cmp_cut : Cut → Cut → Order
+unfoldable pub cmp_cut : Cut → Cut → Ordering
 cmp_cut c d = or_else (cmp_number (level c) (level d)) (or_else (cmp_key (spot c) (spot d)) (cmp_number (side c) (side d)))
 
 -- c stands at or before d

@@ -2,8 +2,8 @@
 use Rattle.std.specs.Prelude.{Bool, true, false}
 use Rattle.base.specs.Pick.{pick}
 use Rattle.key.specs.Order.{Key, cmp_key}
-use Rattle.key.specs.declared.Order.{Order}
-use Rattle.key.specs.declared.Order.TheVariants.{Less, Equal, Greater}
+use Rattle.std.specs.declared.cmp.Ordering.{Ordering}
+use Rattle.std.specs.declared.cmp.Ordering.TheVariants.{Less, Equal, Greater}
 use Rattle.comparable_range.specs.declared.Kind.{Kind}
 use Rattle.comparable_range.specs.declared.Kind.TheVariants.{Unbounded, Included, Excluded}
 
@@ -14,7 +14,7 @@ is_keyed Included = true
 is_keyed Excluded = true
 
 -- the order of two bounds by their kinds alone
-abbrev pub tie : Bool → Kind → Kind → Order
+abbrev pub tie : Bool → Kind → Kind → Ordering
 tie start Unbounded Unbounded = Equal
 tie start Unbounded Included = pick start Less Greater
 tie start Unbounded Excluded = pick start Less Greater
@@ -26,11 +26,11 @@ tie start Excluded Included = pick start Greater Less
 tie start Excluded Excluded = Equal
 
 -- the order of two bounds' keys, where both have one
-unfoldable pub key_order : Kind → Key → Kind → Key → Order
+unfoldable pub key_order : Kind → Key → Kind → Key → Ordering
 key_order ka a kb b = pick (is_keyed ka) (pick (is_keyed kb) (cmp_key a b) Equal) Equal
 
 -- the test of a range at the order of its keys
-abbrev pub passes : Kind → Kind → Order → Bool
+abbrev pub passes : Kind → Kind → Ordering → Bool
 passes ka kb Less = true
 passes ka kb Greater = false
 passes Unbounded kb Equal = true

@@ -3,14 +3,13 @@ use Rattle.std.specs.Prelude.{Bool, true, false, ◌&&◌, ◌||◌}
 use Rattle.std.proofs.Math.Option.{Option, none, some}
 use Rattle.base.specs.Pick.{pick}
 use Rattle.key.specs.Order.{Key, cmp_key, or_else, at_most, is_less, is_equal, key_at_most, key_below}
-use Rattle.key.specs.declared.Order.{Order}
-use Rattle.key.specs.declared.Order.TheVariants.{Less, Equal, Greater}
+use Rattle.std.specs.declared.cmp.Ordering.{Ordering}
+use Rattle.std.specs.declared.cmp.Ordering.TheVariants.{Less, Equal, Greater}
 use Rattle.comparable_range.specs.declared.Kind.{Kind}
 use Rattle.comparable_range.specs.declared.Kind.TheVariants.{Unbounded, Included, Excluded}
 use Rattle.comparable_range.specs.declared.Side.{Side}
 use Rattle.comparable_range.specs.declared.Side.TheVariants.{First, Second}
-use Rattle.comparable_range.specs.declared.Sides.{Sides}
-use Rattle.comparable_range.specs.declared.Sides.TheVariants.{Nothing, From}
+use Rattle.std.specs.Prelude.{Option as Optional, None, Some, is_some}
 
 pub data Bound : Type 0 where
   unbounded : Bound
@@ -32,7 +31,7 @@ range_of ks s ke e = record { start = bound_of ks s; end = bound_of ke e }
 -- ---- the order of bounds
 -- The order of two bounds, both starts (true) or both ends (false). At equal keys, included comes before excluded as a
 -- start and after it as an end. An unbounded start is least, an unbounded end greatest.
-unfoldable pub cmp_bound : Bool → Bound → Bound → Order
+unfoldable pub cmp_bound : Bool → Bound → Bound → Ordering
 cmp_bound start unbounded unbounded = Equal
 cmp_bound start unbounded (included b) = pick start Less Greater
 cmp_bound start unbounded (excluded b) = pick start Less Greater
@@ -81,9 +80,13 @@ of Second a b = b
 abbrev pub supplied : Range → Range → Side → Side → Range
 supplied r q s e = record { start = of s r.start q.start; end = of e r.end q.end }
 
+-- which of two ranges supplies the start of a third and which the end, if there is a third
+abbrev pub Sides : Type 0
+Sides = Optional (Side × Side)
+
 abbrev pub chosen : Range → Range → Sides → Option Range
-chosen r q Nothing = none
-chosen r q (From s e) = some (supplied r q s e)
+chosen r q None = none
+chosen r q (Some (s, e)) = some (supplied r q s e)
 
 -- The greater start and the lesser end; of equal bounds, the second range's start and the first's end.
 unfoldable pub start_side : Bound → Bound → Side
@@ -97,7 +100,7 @@ overlap r q = supplied r q (start_side r.start q.start) (end_side r.end q.end)
 
 -- which range supplies the start of the intersection and which its end
 unfoldable pub intersect_sides : Range → Range → Sides
-intersect_sides r q = pick (non_empty (overlap r q)) (From (start_side r.start q.start) (end_side r.end q.end)) Nothing
+intersect_sides r q = pick (non_empty (overlap r q)) (Some (start_side r.start q.start, end_side r.end q.end)) None
 
 abbrev pub intersect : Range → Range → Option Range
 intersect r q = chosen r q (intersect_sides r q)
@@ -114,12 +117,11 @@ are_adjacent (excluded a) (included b) = is_equal (cmp_key a b)
 are_adjacent (excluded a) (excluded b) = false
 
 -- ranges are ordered by their starts, then by their ends
-unfoldable pub cmp_range : Range → Range → Order
+unfoldable pub cmp_range : Range → Range → Ordering
 cmp_range r q = or_else (cmp_bound true r.start q.start) (cmp_bound false r.end q.end)
 
 abbrev pub meets : Sides → Bool
-meets Nothing = false
-meets (From s e) = true
+meets s = is_some s
 
 -- the greater end; of equal ones, the second
 unfoldable pub greater_end_side : Bound → Bound → Side
@@ -130,16 +132,16 @@ greater_end_side a b = pick (at_most (cmp_bound false a b)) Second First
 unfoldable pub unite_sides : Range → Range → Sides
 unite_sides r q =
     pick (meets (intersect_sides r q) || are_adjacent r.end q.start)
-    (From First (greater_end_side r.end q.end))
-    Nothing
+    (Some (First, greater_end_side r.end q.end))
+    None
 
 abbrev pub other : Side → Side
 other First = Second
 other Second = First
 
 abbrev pub exchanged : Sides → Sides
-exchanged Nothing = Nothing
-exchanged (From s e) = From (other s) (other e)
+exchanged None = None
+exchanged (Some (s, e)) = Some (other s, other e)
 
 -- the lesser range comes first; of equal ranges, the second
 unfoldable pub union_sides : Range → Range → Sides

@@ -5,13 +5,13 @@
 ghost use Rattle.std.specs.Prelude.{◌≡◌};
 ghost use Rattle.comparable_range.specs.Range.{bound_of, range_of, of, cmp_bound, non_empty, holds, start_holds, end_holds};
 ghost use Rattle.comparable_range.specs.Range.{are_adjacent, cmp_range, start_side, end_side, intersect_sides};
-ghost use Rattle.comparable_range.specs.Range.{meets, union_sides, unite_sides, exchanged, other};
+ghost use Rattle.comparable_range.specs.Range.{union_sides, unite_sides, exchanged, other};
 ghost use Rattle.comparable_range.specs.declared.Side.TheVariants.{First, Second};
 ghost use Rattle.key.specs.Order.{at_most};
 ghost use Rattle.base.specs.Pick.{pick};
 ghost use Rattle.comparable_range.specs.Factors.{is_keyed, tie, key_order, passes};
 
-use key::Order;
+use std::cmp::Ordering;
 
 #[derive(Clone, Copy)]
 pub enum Kind {
@@ -27,13 +27,6 @@ pub enum Side {
     Second,
 }
 
-// Which of two ranges supplies the start of a third and which the end, if there is a third.
-#[derive(Clone, Copy)]
-pub enum Sides {
-    Nothing,
-    From(Side, Side),
-}
-
 // Whether a kind has a key.
 pub fn keyed(k: Kind) -> bool
     ensures { result ≡ is_keyed k }
@@ -42,48 +35,56 @@ pub fn keyed(k: Kind) -> bool
 }
 
 // The order of two bounds by their kinds alone: at equal keys, or where one has none.
-fn tied(ka: Kind, kb: Kind, start: bool) -> Order
+fn tied(ka: Kind, kb: Kind, start: bool) -> Ordering
     ensures { result ≡ tie start ka kb }
 {
     match (ka, kb) {
         (Kind::Unbounded, Kind::Unbounded)
         | (Kind::Included, Kind::Included)
-        | (Kind::Excluded, Kind::Excluded) => Order::Equal,
+        | (Kind::Excluded, Kind::Excluded) => Ordering::Equal,
         (Kind::Unbounded, _) | (Kind::Included, Kind::Excluded) => {
-            if start { Order::Less } else { Order::Greater }
+            if start {
+                Ordering::Less
+            } else {
+                Ordering::Greater
+            }
         }
-        _ => if start { Order::Greater } else { Order::Less },
+        _ => if start {
+            Ordering::Greater
+        } else {
+            Ordering::Less
+        },
     }
 }
 
 // The order of two bounds' keys: equal where one has none.
 #[tactic(auto, unfolding(crate::specs::Factors::key_order))]
-fn key_order(ka: Kind, a: &[u8], kb: Kind, b: &[u8]) -> Order
+fn key_order(ka: Kind, a: &[u8], kb: Kind, b: &[u8]) -> Ordering
     ensures { result ≡ key_order ka a.now kb b.now }
 {
     if keyed(ka) && keyed(kb) {
         key::cmp(a, b)
     } else {
-        Order::Equal
+        Ordering::Equal
     }
 }
 
 // The order of two bounds, both starts or both ends.
 #[tactic(auto, using(crate::proofs::Factored::bounds_compared))]
-pub fn cmp_bound(ka: Kind, a: &[u8], kb: Kind, b: &[u8], start: bool) -> Order
+pub fn cmp_bound(ka: Kind, a: &[u8], kb: Kind, b: &[u8], start: bool) -> Ordering
     ensures { result ≡ cmp_bound start (bound_of ka a.now) (bound_of kb b.now) }
 {
-    key::or_else(key_order(ka, a, kb, b), tied(ka, kb, start))
+    key_order(ka, a, kb, b).then(tied(ka, kb, start))
 }
 
 // Whether a range passes, at the order of its keys.
-fn passes_at(ka: Kind, kb: Kind, o: Order) -> bool
+fn passes_at(ka: Kind, kb: Kind, o: Ordering) -> bool
     ensures { result ≡ passes ka kb o }
 {
     match o {
-        Order::Less => true,
-        Order::Greater => false,
-        Order::Equal => matches!(
+        Ordering::Less => true,
+        Ordering::Greater => false,
+        Ordering::Equal => matches!(
             (ka, kb),
             (Kind::Unbounded, _) | (_, Kind::Unbounded) | (Kind::Included, Kind::Included)
         ),
@@ -105,8 +106,8 @@ fn start_holds(k: Kind, s: &[u8], key: &[u8]) -> bool
 {
     match k {
         Kind::Unbounded => true,
-        Kind::Included => key::at_most(key::cmp(s, key)),
-        Kind::Excluded => key::is_less(key::cmp(s, key)),
+        Kind::Included => key::cmp(s, key).is_le(),
+        Kind::Excluded => key::cmp(s, key).is_lt(),
     }
 }
 
@@ -117,8 +118,8 @@ fn end_holds(k: Kind, e: &[u8], key: &[u8]) -> bool
 {
     match k {
         Kind::Unbounded => true,
-        Kind::Included => key::at_most(key::cmp(key, e)),
-        Kind::Excluded => key::is_less(key::cmp(key, e)),
+        Kind::Included => key::cmp(key, e).is_le(),
+        Kind::Excluded => key::cmp(key, e).is_lt(),
     }
 }
 
@@ -144,7 +145,7 @@ fn of<T: Copy>(side: Side, a: T, b: T) -> T
 fn greater(ka: Kind, a: &[u8], kb: Kind, b: &[u8], start: bool) -> Side
     ensures { result ≡ pick (at_most (cmp_bound start (bound_of ka a.now) (bound_of kb b.now))) Second First }
 {
-    if key::at_most(cmp_bound(ka, a, kb, b, start)) {
+    if cmp_bound(ka, a, kb, b, start).is_le() {
         Side::Second
     } else {
         Side::First
@@ -164,7 +165,7 @@ pub fn start_side(ka: Kind, a: &[u8], kb: Kind, b: &[u8]) -> Side
 pub fn end_side(ka: Kind, a: &[u8], kb: Kind, b: &[u8]) -> Side
     ensures { result ≡ end_side (bound_of ka a.now) (bound_of kb b.now) }
 {
-    if key::at_most(cmp_bound(ka, a, kb, b, false)) {
+    if cmp_bound(ka, a, kb, b, false).is_le() {
         Side::First
     } else {
         Side::Second
@@ -182,7 +183,7 @@ pub fn intersect<'a>(
     t: &'a [u8],
     je: Kind,
     f: &'a [u8],
-) -> Sides
+) -> Option<(Side, Side)>
     ensures { result ≡ intersect_sides (range_of ks s.now ke e.now) (range_of js t.now je f.now) }
 {
     let start = start_side(ks, s, js, t);
@@ -193,9 +194,9 @@ pub fn intersect<'a>(
         of(end, ke, je),
         of(end, e, f),
     ) {
-        Sides::From(start, end)
+        Some((start, end))
     } else {
-        Sides::Nothing
+        None
     }
 }
 
@@ -207,7 +208,7 @@ fn are_adjacent(ke: Kind, e: &[u8], ks: Kind, s: &[u8]) -> bool
     matches!(
         (ke, ks),
         (Kind::Included, Kind::Excluded) | (Kind::Excluded, Kind::Included)
-    ) && key::is_equal(key::cmp(e, s))
+    ) && key::cmp(e, s).is_eq()
 }
 
 // The order of two ranges: by their starts, then by their ends.
@@ -221,19 +222,10 @@ fn cmp_range(
     t: &[u8],
     je: Kind,
     f: &[u8],
-) -> Order
+) -> Ordering
     ensures { result ≡ cmp_range (range_of ks s.now ke e.now) (range_of js t.now je f.now) }
 {
-    key::or_else(
-        cmp_bound(ks, s, js, t, true),
-        cmp_bound(ke, e, je, f, false),
-    )
-}
-
-fn found(sides: Sides) -> bool
-    ensures { result ≡ meets sides }
-{
-    matches!(sides, Sides::From(_, _))
+    cmp_bound(ks, s, js, t, true).then(cmp_bound(ke, e, je, f, false))
 }
 
 // The union of two ranges of which the first is the lesser, or equal.
@@ -247,13 +239,13 @@ fn unite<'a>(
     t: &'a [u8],
     je: Kind,
     f: &'a [u8],
-) -> Sides
+) -> Option<(Side, Side)>
     ensures { result ≡ unite_sides (range_of ks s.now ke e.now) (range_of js t.now je f.now) }
 {
-    if found(intersect(ks, s, ke, e, js, t, je, f)) || are_adjacent(ke, e, js, t) {
-        Sides::From(Side::First, greater(ke, e, je, f, false))
+    if intersect(ks, s, ke, e, js, t, je, f).is_some() || are_adjacent(ke, e, js, t) {
+        Some((Side::First, greater(ke, e, je, f, false)))
     } else {
-        Sides::Nothing
+        None
     }
 }
 
@@ -267,13 +259,11 @@ fn other_side(side: Side) -> Side
 }
 
 // The sides with the two ranges exchanged.
-fn exchange(sides: Sides) -> Sides
+fn exchange(sides: Option<(Side, Side)>) -> Option<(Side, Side)>
     ensures { result ≡ exchanged sides }
 {
-    match sides {
-        Sides::Nothing => Sides::Nothing,
-        Sides::From(start, end) => Sides::From(other_side(start), other_side(end)),
-    }
+    let (start, end) = sides?;
+    Some((other_side(start), other_side(end)))
 }
 
 // The union of two ranges, where the Rust has one.
@@ -287,10 +277,10 @@ pub fn union<'a>(
     t: &'a [u8],
     je: Kind,
     f: &'a [u8],
-) -> Sides
+) -> Option<(Side, Side)>
     ensures { result ≡ union_sides (range_of ks s.now ke e.now) (range_of js t.now je f.now) }
 {
-    if key::is_less(cmp_range(ks, s, ke, e, js, t, je, f)) {
+    if cmp_range(ks, s, ke, e, js, t, je, f).is_lt() {
         unite(ks, s, ke, e, js, t, je, f)
     } else {
         exchange(unite(js, t, je, f, ks, s, ke, e))

@@ -7,7 +7,7 @@ use mathlib.Core.Logic.{inl, inr}
 use mathlib.Core.Bool.{Bool, true, false}
 use mathlib.Core.Option.{some}
 use Rattle.base.specs.Pick.{pick}
-use Rattle.comparable_range.specs.declared.Sides.TheVariants.{Nothing, From}
+use Rattle.std.specs.Prelude.{None, Some}
 use Rattle.comparable_range.specs.Range.{Bound, unbounded, included, excluded, Range, of, cmp_bound, bounds_pass, non_empty, start_side, end_side, overlap, chosen, intersect_sides, intersect, meets}
 use Rattle.comparable_range.specs.Cut.{Cut, cut_below, ◌≼◌, ◌≺◌, later, sooner, start_cut, end_cut}
 use Rattle.comparable_range.proofs.Cut.{order, ≼_trans, ≼-not-≺, ≺-≼-trans, ≼-≺-trans, before-≺}
@@ -66,7 +66,7 @@ opened end w asked = go (first_passes end w)
   where
     go :
         (t : Bool)
-        → meets_from (chosen (between unbounded end) w (pick t (From (start_side unbounded w.start) (end_side end w.end)) Nothing)) end asked
+        → meets_from (chosen (between unbounded end) w (pick t (Some (start_side unbounded w.start, end_side end w.end)) None)) end asked
         ≡ pick t (meets (intersect_sides (between w.start end) asked)) false
     go true = ap (λ b. meets (intersect_sides (between b end) asked)) (from_below w.start)
     go false = refl
@@ -107,7 +107,7 @@ from_the_start_passes v end r e = go (first_passes end w) refl e
     go :
         (t : Bool)
         → first_passes end w ≡ t
-        → chosen (between unbounded end) w (pick t (From (start_side unbounded w.start) (end_side end w.end)) Nothing) ≡ some r
+        → chosen (between unbounded end) w (pick t (Some (start_side unbounded w.start, end_side end w.end)) None) ≡ some r
         → non_empty (between r.start end) ≡ true
     go true p q =
         let z : overlap (between unbounded end) w ≡ r = cc in

@@ -10,8 +10,8 @@ use mathlib.Core.Option.{some}
 use mathlib.Core.List.{List, [], ◌∷◌}
 use Rattle.base.specs.Pick.{pick, and_first, and_second}
 use Rattle.key.specs.Order.{Key, at_most}
-use Rattle.comparable_range.specs.declared.Sides.{Sides}
-use Rattle.comparable_range.specs.declared.Sides.TheVariants.{Nothing, From}
+use Rattle.comparable_range.specs.Range.{Sides}
+use Rattle.std.specs.Prelude.{None, Some}
 use Rattle.comparable_range.specs.Range.{Bound, included, excluded, Range, cmp_bound, non_empty, holds, chosen, intersect_sides, meets}
 use Rattle.comparable_range.specs.Cut.{before, cut_at_most, ◌≼◌, ◌≺◌, start_cut, end_cut}
 use Rattle.comparable_range.specs.Laws.{held_by}
@@ -72,8 +72,8 @@ apart : (r q : Range) (x : Key) → meets (intersect_sides r q) ≡ false → ho
 apart r q x n h = sym (and-true (holds r x)) ∙ (ap (λ t. holds r x && t) (sym h) ∙ (sym (intersect_holds_what_both_hold r q x) ∙ go (intersect_sides r q) n))
   where
     go : (s : Sides) → meets s ≡ false → held_by (chosen r q s) x ≡ false
-    go Nothing n = refl
-    go (From s e) n = absurd (false≢true (sym n))
+    go None n = refl
+    go (Some (s, e)) n = absurd (false≢true (sym n))
 
 -- a start is at or before itself
 ascends_itself : (v : View) (vs : List View) → ascend (starts (v ∷ vs)) ≡ true → ascend_from (effective v).start (starts (v ∷ vs)) ≡ true

@@ -5,12 +5,12 @@ use mathlib.Core.Bool.{Bool, true, false, ◌&&◌, and-true, false≢true}
 use mathlib.Core.Option.{Option, none, some}
 use Rattle.base.specs.Pick.{pick, and_first, and_second}
 use Rattle.key.specs.Order.{Key, cmp_key, at_most, is_less, key_at_most, key_below}
-use Rattle.key.specs.declared.Order.{Order}
-use Rattle.key.specs.declared.Order.TheVariants.{Less, Equal, Greater}
+use Rattle.std.specs.declared.cmp.Ordering.{Ordering}
+use Rattle.std.specs.declared.cmp.Ordering.TheVariants.{Less, Equal, Greater}
 use Rattle.key.proofs.Linear.{key_order_is_total}
 use Rattle.comparable_range.specs.declared.Side.TheVariants.{First, Second}
-use Rattle.comparable_range.specs.declared.Sides.{Sides}
-use Rattle.comparable_range.specs.declared.Sides.TheVariants.{Nothing, From}
+use Rattle.comparable_range.specs.Range.{Sides}
+use Rattle.std.specs.Prelude.{None, Some}
 use Rattle.comparable_range.specs.Range.{included, excluded, Range, holds, start_holds, end_holds, intersect_sides, chosen}
 use Rattle.comparable_range.specs.Laws.{held_by}
 use Rattle.comparable_range.proofs.Intersection.{intersect_holds_what_both_hold}
@@ -24,11 +24,11 @@ use Rattle.db_state.specs.LookupLaws.{held_in, shown_by, CalculateViewRangeHolds
 
 -- ---- ranges with suppliers
 chosen_holds : (j k : Joint) (s : Sides) (x : Key) → held_in (joint-chosen j k s) x ≡ held_by (chosen (range j) (range k) s) x
-chosen_holds j k Nothing x = refl
-chosen_holds j k (From First First) x = refl
-chosen_holds j k (From First Second) x = refl
-chosen_holds j k (From Second First) x = refl
-chosen_holds j k (From Second Second) x = refl
+chosen_holds j k None x = refl
+chosen_holds j k (Some (First, First)) x = refl
+chosen_holds j k (Some (First, Second)) x = refl
+chosen_holds j k (Some (Second, First)) x = refl
+chosen_holds j k (Some (Second, Second)) x = refl
 
 both_hold : (j k : Joint) (x : Key) → held_in (joint-intersect j k) x ≡ (holds (range j) x && holds (range k) x)
 unfolding joint-intersect
@@ -76,7 +76,7 @@ both_true s t h k = rw (h, k)
 below_unequal : (x k : Key) → key_at_most x k ≡ true → (x ≡ k → ⊥) → key_below x k ≡ true
 below_unequal x k h n = go (cmp_key x k) refl h
   where
-    go : (o : Order) → cmp_key x k ≡ o → at_most o ≡ true → is_less o ≡ true
+    go : (o : Ordering) → cmp_key x k ≡ o → at_most o ≡ true → is_less o ≡ true
     go Less e h = refl
     go Equal e h = absurd (n (key_order_is_total.equal x k e))
     go Greater e h = absurd (false≢true h)
@@ -108,7 +108,7 @@ compacted_intersection_holds_the_views_keys v (some next) asked x a h u =
 equal_at : (x k : Key) → key_at_most x k ≡ true → key_below x k ≡ false → x ≡ k
 equal_at x k h n = go (cmp_key x k) refl h n
   where
-    go : (o : Order) → cmp_key x k ≡ o → at_most o ≡ true → is_less o ≡ false → x ≡ k
+    go : (o : Ordering) → cmp_key x k ≡ o → at_most o ≡ true → is_less o ≡ false → x ≡ k
     go Less e h n = absurd (false≢true (sym n))
     go Equal e h n = key_order_is_total.equal x k e
     go Greater e h n = absurd (false≢true h)

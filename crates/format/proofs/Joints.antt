@@ -12,8 +12,8 @@ use Rattle.comparable_range.specs.declared.Kind.{Kind}
 use Rattle.comparable_range.specs.declared.Kind.TheVariants.{Unbounded, Included, Excluded}
 use Rattle.comparable_range.specs.declared.Side.{Side}
 use Rattle.comparable_range.specs.declared.Side.TheVariants.{First, Second}
-use Rattle.comparable_range.specs.declared.Sides.{Sides}
-use Rattle.comparable_range.specs.declared.Sides.TheVariants.{Nothing, From}
+use Rattle.comparable_range.specs.Range.{Sides}
+use Rattle.std.specs.Prelude.{None, Some}
 use Rattle.format.specs.Joint.{Supply, range, chosen, intersect}
 use Rattle.format.specs.Span.{SuppliedInside, supplied_bound, supply_in, bound_key, JointInside, joint_in, MetFound}
 use Rattle.format.specs.Laws.{JointIntersectForgets}
@@ -64,13 +64,13 @@ module _ (a b : List ℕ) where
   supply_of Second x y = refl
 
   module _ {x y : JointSpan} (i : JointInside a b x) (k : JointInside a b y) {w : Sides} (h : w ≡ intersect_sides (range (joint_in a b x)) (range (joint_in a b y))) where
-    pub joint_none : w ≡ Nothing → MetFound a b (intersect (joint_in a b x) (joint_in a b y)) NotMet
+    pub joint_none : w ≡ None → MetFound a b (intersect (joint_in a b x) (joint_in a b y)) NotMet
     unfolding intersect
     joint_none e = record { meaning = rw (← h, e); inside = tt }
 
     pub joint_met :
         {s e : Side} {u v : Supplied}
-        → w ≡ From s e
+        → w ≡ Some (s, e)
         → u ≡ of s x.start y.start
         → v ≡ of e x.end y.end
         → MetFound a b (intersect (joint_in a b x) (joint_in a b y)) (At (record { start = u; end = v }))
@@ -97,5 +97,5 @@ unfolding intersect
 joint_intersect_forgets j k = go (intersect_sides (range j) (range k))
   where
     go : (w : Sides) → map range (chosen j k w) ≡ plain.chosen (range j) (range k) w
-    go Nothing = refl
-    go (From s e) = rw (bound_of_lem s j.start k.start, bound_of_lem e j.end k.end)
+    go None = refl
+    go (Some (s, e)) = rw (bound_of_lem s j.start k.start, bound_of_lem e j.end k.end)

@@ -6,15 +6,15 @@ use mathlib.Core.Bool.{Bool, true, false}
 use mathlib.Core.List.{List, []}
 use lib.ListN.{take, drop}
 use Rattle.key.specs.Order.{Key}
-use Rattle.key.specs.declared.Order.{Order}
+use Rattle.std.specs.declared.cmp.Ordering.{Ordering}
 use Rattle.comparable_range.specs.Range.{Range, bound_of, range_of, of, cmp_bound, non_empty, holds, start_side, end_side, overlap, meets, intersect_sides, union_sides}
 use Rattle.comparable_range.specs.Factors.{is_keyed}
 use Rattle.comparable_range.specs.declared.Kind.{Kind}
 use Rattle.comparable_range.specs.declared.Kind.TheVariants.{Unbounded, Included, Excluded}
 use Rattle.comparable_range.specs.declared.Side.{Side}
 use Rattle.comparable_range.specs.declared.Side.TheVariants.{First, Second}
-use Rattle.comparable_range.specs.declared.Sides.{Sides}
-use Rattle.comparable_range.specs.declared.Sides.TheVariants.{Nothing, From}
+use Rattle.comparable_range.specs.Range.{Sides}
+use Rattle.std.specs.Prelude.{None, Some}
 use Rattle.comparable_range.proofs.Unions.{meets_is}
 use Rattle.format.specs.Range.{range_in, bound_in, BoundInside}
 use Rattle.format.specs.Span.{SuppliedInside, supplied_bound, bound_key, JoinedInside, joint_of, start_key_of, end_key_of, key_of}
@@ -29,7 +29,7 @@ part s b = take b.len (drop b.at s)
 
 -- ---- two bounds
 module _ (a b : List ℕ) (x y : BoundSpan) {j k : Key} (p : j ≡ part a x) (q : k ≡ part b y) where
-  pub compared_in : (start : Bool) {o : Order} → o ≡ cmp_bound start (bound_of x.kind j) (bound_of y.kind k) → o ≡ cmp_bound start (bound_in a x) (bound_in b y)
+  pub compared_in : (start : Bool) {o : Ordering} → o ≡ cmp_bound start (bound_of x.kind j) (bound_of y.kind k) → o ≡ cmp_bound start (bound_in a x) (bound_in b y)
   compared_in start h = h ∙ rw (p, q)
 
   pub passing_in : {t : Bool} → t ≡ non_empty (range_of x.kind j y.kind k) → t ≡ non_empty (record { start = bound_in a x; end = bound_in b y })
@@ -59,10 +59,10 @@ pub ruleset span_exits = (held_in, meeting_in, union_in)
 
 -- ---- meets
 module _ (r q : Range) {w : Sides} (h : w ≡ intersect_sides r q) where
-  pub meet_not : w ≡ Nothing → false ≡ non_empty (overlap r q)
+  pub meet_not : w ≡ None → false ≡ non_empty (overlap r q)
   meet_not e = sym (ap meets (sym h ∙ e)) ∙ meets_is r q
 
-  pub meet : {s e : Side} → w ≡ From s e → true ≡ non_empty (overlap r q)
+  pub meet : {s e : Side} → w ≡ Some (s, e) → true ≡ non_empty (overlap r q)
   meet {s} {e} k = sym (ap meets (sym h ∙ k)) ∙ meets_is r q
 
 pub ruleset meet_exits = (meet_not, meet)

@@ -2,8 +2,8 @@
 use Rattle.std.proofs.Math.Option.{Option, none, some}
 use Rattle.comparable_range.specs.Range.{Bound, Range, of, intersect_sides}
 use Rattle.comparable_range.specs.declared.Side.{Side}
-use Rattle.comparable_range.specs.declared.Sides.{Sides}
-use Rattle.comparable_range.specs.declared.Sides.TheVariants.{Nothing, From}
+use Rattle.comparable_range.specs.Range.{Sides}
+use Rattle.std.specs.Prelude.{None, Some}
 
 -- a bound, and which of the two supplied it
 pub record Supply : Type 0 where
@@ -23,8 +23,8 @@ abbrev pub range : Joint → Range
 range j = record { start = j.start.bound; end = j.end.bound }
 
 abbrev pub chosen : Joint → Joint → Sides → Option Joint
-chosen j k Nothing = none
-chosen j k (From s e) = some (record { start = of s j.start k.start; end = of e j.end k.end })
+chosen j k None = none
+chosen j k (Some (s, e)) = some (record { start = of s j.start k.start; end = of e j.end k.end })
 
 -- the greater start and the lesser end, each with its supplier; of equal bounds, the second's start and the first's end
 unfoldable pub intersect : Joint → Joint → Option Joint

@@ -8,7 +8,7 @@ ghost use Rattle.format.specs.Span.{SuppliedInside, supplied_bound, bound_key, J
 
 use crate::range::{BoundSpan, key_of};
 use comparable_range::{Kind, Side, Sides};
-use key::Order;
+use std::cmp::Ordering;
 
 // A range whose bounds stand in one slice.
 #[derive(Clone, Copy)]
@@ -41,7 +41,7 @@ pub enum Joined {
 }
 
 // The order of two bounds, both starts or both ends.
-pub fn compare(a: &[u8], x: BoundSpan, b: &[u8], y: BoundSpan, start: bool) -> Order
+pub fn compare(a: &[u8], x: BoundSpan, b: &[u8], y: BoundSpan, start: bool) -> Ordering
     requires fact_1 { BoundInside a.now x }
     requires fact_2 { BoundInside b.now y }
     ensures { result ≡ cmp_bound start (bound_in a.now x) (bound_in b.now y) }

@@ -10,7 +10,7 @@ use Rattle.base.specs.Pick.{pick, and_first, and_second}
 use Rattle.key.specs.Order.{Key}
 use Rattle.comparable_range.specs.declared.Side.{Side}
 use Rattle.comparable_range.specs.declared.Side.TheVariants.{First, Second}
-use Rattle.comparable_range.specs.declared.Sides.TheVariants.{Nothing, From}
+use Rattle.std.specs.Prelude.{None, Some}
 use Rattle.comparable_range.specs.Range.{Bound, Range, of, non_empty, start_side, end_side, overlap, chosen, intersect, intersect_sides, meets}
 use Rattle.comparable_range.specs.Cut.{start_cut, end_cut}
 use Rattle.comparable_range.proofs.Cut.{≺-≼-trans, ≼-≺-trans}
@@ -75,7 +75,7 @@ intersect_plain : (r q : Range) → Plain r → not (is_excluded q.start) ≡ tr
 unfolding intersect_sides
 intersect_plain r q h k = go (non_empty (overlap r q)) refl
   where
-    go : (b : Bool) → non_empty (overlap r q) ≡ b → All Plain (listed (chosen r q (pick b (From (start_side r.start q.start) (end_side r.end q.end)) Nothing)))
+    go : (b : Bool) → non_empty (overlap r q) ≡ b → All Plain (listed (chosen r q (pick b (Some (start_side r.start q.start, end_side r.end q.end)) None)))
     go true e = (record { passes = e; start = of_plain (start_side r.start q.start) r.start q.start h.start k }, tt)
     go false e = tt
 

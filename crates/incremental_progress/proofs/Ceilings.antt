@@ -7,8 +7,8 @@ use Rattle.base.specs.Pick.{pick}
 use Rattle.key.specs.Order.{Key}
 use Rattle.comparable_range.specs.declared.Side.{Side}
 use Rattle.comparable_range.specs.declared.Side.TheVariants.{First, Second}
-use Rattle.comparable_range.specs.declared.Sides.{Sides}
-use Rattle.comparable_range.specs.declared.Sides.TheVariants.{Nothing, From}
+use Rattle.comparable_range.specs.Range.{Sides}
+use Rattle.std.specs.Prelude.{None, Some}
 use Rattle.comparable_range.specs.Range.{Bound, unbounded, included, excluded, Range, of, start_side, end_side, overlap, chosen, intersect_sides, non_empty}
 use Rattle.format.specs.Laws.{KeyWithin, BoundWithin, RangeWithin}
 use Rattle.records.specs.Values.{Table, View, Part}
@@ -57,8 +57,8 @@ pub record IntervalWithin (iv : Interval) : Type 0 where
   pub end : If KeyWithin iv.end
 
 chosen_within : (s : Sides) (r q : Range) → RangeWithin r → RangeWithin q → All RangeWithin (listed (chosen r q s))
-chosen_within Nothing r q h k = tt
-chosen_within (From s e) r q h k =
+chosen_within None r q h k = tt
+chosen_within (Some (s, e)) r q h k =
     (record { start = of_within s r.start q.start h.start k.start; end = of_within e r.end q.end h.end k.end }, tt)
 
 before_within : (o : Option Key) (r : Range) → If KeyWithin o → RangeWithin r → All RangeWithin (listed (part_before o r))

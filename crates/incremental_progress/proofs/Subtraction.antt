@@ -6,7 +6,7 @@ use mathlib.Core.Option.{Option, none, some}
 use mathlib.Core.List.{List, [], ◌∷◌, map, flat_map, cons≢nil, head-eq_of_cons-eq, tail-eq_of_cons-eq}
 use Rattle.base.specs.Pick.{pick}
 use Rattle.key.specs.Order.{Key}
-use Rattle.comparable_range.specs.declared.Sides.TheVariants.{Nothing, From}
+use Rattle.std.specs.Prelude.{None, Some}
 use Rattle.comparable_range.specs.Range.{Range, non_empty, holds, start_side, end_side, chosen, overlap, intersect_sides, intersect}
 use Rattle.comparable_range.specs.Cut.{Cut, cut_at_most, ◌≼◌, later, sooner, start_cut, end_cut}
 use Rattle.comparable_range.proofs.Cut.{≺-≼, below-≼, ≼-above, cut_below_not}
@@ -44,7 +44,7 @@ unfolding intersect_sides keep
 intersect_cuts r q =
     rw (passes_by_cuts, cut_below_not, ← start_side_cut r.start q.start, ← end_side_cut r.end q.end) (go (cut_at_most _ _))
   where
-    go : (t : Bool) → map cuts (listed (chosen r q (pick (not t) (From (start_side r.start q.start) (end_side r.end q.end)) Nothing))) ≡ pick t [] (cuts (overlap r q) ∷ [])
+    go : (t : Bool) → map cuts (listed (chosen r q (pick (not t) (Some (start_side r.start q.start, end_side r.end q.end)) None))) ≡ pick t [] (cuts (overlap r q) ∷ [])
     go true = refl
     go false = refl
 

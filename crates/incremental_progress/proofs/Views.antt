@@ -10,8 +10,8 @@ use mathlib.Core.Option.{Option, none, some}
 use mathlib.Core.List.{List, [], ◌∷◌, ◌++◌, map, flat_map}
 use Rattle.base.specs.Pick.{pick}
 use Rattle.key.specs.Order.{Key, is_equal}
-use Rattle.key.specs.declared.Order.{Order}
-use Rattle.key.specs.declared.Order.TheVariants.{Less, Equal, Greater}
+use Rattle.std.specs.declared.cmp.Ordering.{Ordering}
+use Rattle.std.specs.declared.cmp.Ordering.TheVariants.{Less, Equal, Greater}
 use Rattle.key.proofs.Linear.{cmp_self}
 use Rattle.comparable_range.specs.Range.{Range, cmp_bound, non_empty, holds, overlap, intersect_sides, meets}
 use Rattle.comparable_range.specs.Cut.{Cut, cmp_cut, ◌≼◌, ◌≺◌, start_cut, end_cut}
@@ -35,7 +35,7 @@ pub same_range_self : (r : Range) → same_range r r ≡ true
 unfolding same_range
 same_range_self r = rw (cmp_start, cmp_end, cmp_self cmp_cut cut_order_is_total (start_cut r.start), cmp_self cmp_cut cut_order_is_total (end_cut r.end))
 
-ties : (o p : Order) → (is_equal o && is_equal p) ≡ true → (o ≡ Equal) × (p ≡ Equal)
+ties : (o p : Ordering) → (is_equal o && is_equal p) ≡ true → (o ≡ Equal) × (p ≡ Equal)
 ties Less p e = (cc, cc)
 ties Equal Less e = (cc, cc)
 ties Equal Equal e = (refl, refl)

@@ -12,11 +12,11 @@ use Rattle.std.specs.Int.{w64, from_be_bytes, from_le_bytes}
 use Rattle.base.specs.Bytes.{Bytes, bytes_tail}
 use Rattle.key.specs.Order.{cmp_key, cmp_number, or_else}
 use Rattle.key.specs.Word.{digits, reversed}
-use Rattle.key.specs.declared.Order.{Order}
-use Rattle.key.specs.declared.Order.TheVariants.{Less, Equal, Greater}
+use Rattle.std.specs.declared.cmp.Ordering.{Ordering}
+use Rattle.std.specs.declared.cmp.Ordering.TheVariants.{Less, Equal, Greater}
 use Rattle.key.proofs.Linear.{cmp_self, number_linear, number_less, number_greater, or_else_end}
 
-pub or_else_assoc : (o p q : Order) → or_else (or_else o p) q ≡ or_else o (or_else p q)
+pub or_else_assoc : (o p q : Ordering) → or_else (or_else o p) q ≡ or_else o (or_else p q)
 or_else_assoc Less p q = refl
 or_else_assoc Equal p q = refl
 or_else_assoc Greater p q = refl

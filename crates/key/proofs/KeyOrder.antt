@@ -6,14 +6,14 @@ use mathlib.Core.Bool.{true, false, true≢false}
 use Rattle.base.specs.Sort.{Preorder}
 use Rattle.base.specs.SortLaws.{decided}
 use Rattle.key.specs.Order.{Key, cmp_key, swap, at_most, key_at_most, key_below}
-use Rattle.key.specs.declared.Order.{Order}
-use Rattle.key.specs.declared.Order.TheVariants.{Less, Equal, Greater}
+use Rattle.std.specs.declared.cmp.Ordering.{Ordering}
+use Rattle.std.specs.declared.cmp.Ordering.TheVariants.{Less, Equal, Greater}
 use Rattle.key.proofs.Linear.{key_order_is_total, key_self, below_not}
 
 at_most_total : (a b : Key) → key_at_most a b ≡ false → key_at_most b a ≡ true
 at_most_total a b h = ap at_most (key_order_is_total.swaps a b) ∙ go (cmp_key a b) h
   where
-    go : (o : Order) → at_most o ≡ false → at_most (swap o) ≡ true
+    go : (o : Ordering) → at_most o ≡ false → at_most (swap o) ≡ true
     go Less e = sym e
     go Equal e = refl
     go Greater e = refl
@@ -21,7 +21,7 @@ at_most_total a b h = ap at_most (key_order_is_total.swaps a b) ∙ go (cmp_key 
 at_most_trans : (a b c : Key) → key_at_most a b ≡ true → key_at_most b c ≡ true → key_at_most a c ≡ true
 at_most_trans a b c h k = go (cmp_key a b) (cmp_key b c) refl refl h k
   where
-    go : (o p : Order) → cmp_key a b ≡ o → cmp_key b c ≡ p → at_most o ≡ true → at_most p ≡ true → key_at_most a c ≡ true
+    go : (o p : Ordering) → cmp_key a b ≡ o → cmp_key b c ≡ p → at_most o ≡ true → at_most p ≡ true → key_at_most a c ≡ true
     go Less Less e f h k = ap at_most (key_order_is_total.trans a b c e f)
     go Less Equal e f h k = rw (← key_order_is_total.equal b c f, e)
     go Less Greater e f h k = absurd (true≢false (sym k))
@@ -39,7 +39,7 @@ at_most_self a = ap at_most (key_self a)
 pub at_most_both : (a b : Key) → key_at_most a b ≡ true → key_at_most b a ≡ true → a ≡ b
 at_most_both a b h k = go (cmp_key a b) refl h (ap at_most (sym (key_order_is_total.swaps a b)) ∙ k)
   where
-    go : (o : Order) → cmp_key a b ≡ o → at_most o ≡ true → at_most (swap o) ≡ true → a ≡ b
+    go : (o : Ordering) → cmp_key a b ≡ o → at_most o ≡ true → at_most (swap o) ≡ true → a ≡ b
     go Less e h k = absurd (true≢false (sym k))
     go Equal e h k = key_order_is_total.equal a b e
     go Greater e h k = absurd (true≢false (sym h))

@@ -9,49 +9,49 @@ use mathlib.Core.List.{[], ◌∷◌, ◌++◌}
 use lib.IntN.{neg_ℤ}
 use Rattle.key.specs.Order.{Key, swap, or_else, at_most, is_less, sign, cmp_number, cmp_key, key_below, key_at_most}
 use Rattle.key.specs.Laws.{Linear, KeyOrderIsTotal, FirstUnequalByteDecides, ProperPrefixComesFirst}
-use Rattle.key.specs.declared.Order.{Order}
-use Rattle.key.specs.declared.Order.TheVariants.{Less, Equal, Greater}
+use Rattle.std.specs.declared.cmp.Ordering.{Ordering}
+use Rattle.std.specs.declared.cmp.Ordering.TheVariants.{Less, Equal, Greater}
 
-own_swap : (o : Order) → o ≡ swap o → o ≡ Equal
+own_swap : (o : Ordering) → o ≡ swap o → o ≡ Equal
 own_swap Less e = cc
 own_swap Equal e = refl
 own_swap Greater e = cc
 
-pub swap_or_else : (o p : Order) → swap (or_else o p) ≡ or_else (swap o) (swap p)
+pub swap_or_else : (o p : Ordering) → swap (or_else o p) ≡ or_else (swap o) (swap p)
 swap_or_else Less p = refl
 swap_or_else Equal p = refl
 swap_or_else Greater p = refl
 
-pub or_else_equal : (o p : Order) → or_else o p ≡ Equal → (o ≡ Equal) × (p ≡ Equal)
+pub or_else_equal : (o p : Ordering) → or_else o p ≡ Equal → (o ≡ Equal) × (p ≡ Equal)
 or_else_equal Less p e = (cc, cc)
 or_else_equal Equal p e = (refl, e)
 or_else_equal Greater p e = (cc, cc)
 
-pub or_else_end : (o : Order) → or_else o Equal ≡ o
+pub or_else_end : (o : Ordering) → or_else o Equal ≡ o
 or_else_end Less = refl
 or_else_end Equal = refl
 or_else_end Greater = refl
 
 -- exchange negates the number
-pub sign_swap : (o : Order) → sign (swap o) ≡ neg_ℤ (sign o)
+pub sign_swap : (o : Ordering) → sign (swap o) ≡ neg_ℤ (sign o)
 sign_swap Less = refl
 sign_swap Equal = refl
 sign_swap Greater = refl
 
-module _ {A : Type 0} (cmp : A → A → Order) (L : Linear cmp) where
+module _ {A : Type 0} (cmp : A → A → Ordering) (L : Linear cmp) where
   pub cmp_self : (a : A) → cmp a a ≡ Equal
   cmp_self a = own_swap (cmp a a) (L.swaps a a)
 
   -- a second comparison after a first is transitive where both are
   pub or_else_trans :
-      (a b c : A) (p q r : Order)
+      (a b c : A) (p q r : Ordering)
       → (p ≡ Less → q ≡ Less → r ≡ Less)
       → or_else (cmp a b) p ≡ Less
       → or_else (cmp b c) q ≡ Less
       → or_else (cmp a c) r ≡ Less
   or_else_trans a b c p q r tails h k = go (cmp a b) (cmp b c) refl refl h k
     where
-      go : (o₁ o₂ : Order) → cmp a b ≡ o₁ → cmp b c ≡ o₂ → or_else o₁ p ≡ Less → or_else o₂ q ≡ Less → or_else (cmp a c) r ≡ Less
+      go : (o₁ o₂ : Ordering) → cmp a b ≡ o₁ → cmp b c ≡ o₂ → or_else o₁ p ≡ Less → or_else o₂ q ≡ Less → or_else (cmp a c) r ≡ Less
       go Less Less e₁ e₂ h k = rw (L.trans a b c e₁ e₂)
       go Less Equal e₁ e₂ h k = rw (← L.equal b c e₂, e₁)
       go Less Greater e₁ e₂ h k = cc
@@ -162,7 +162,7 @@ first_unequal_byte_decides front x y a b h = same_front front (x ∷ a) (y ∷ b
 pub below_not : (a b : Key) → key_below a b ≡ not (key_at_most b a)
 below_not a b = rw (key_swaps a b) (go (cmp_key a b))
   where
-    go : (o : Order) → is_less o ≡ not (at_most (swap o))
+    go : (o : Ordering) → is_less o ≡ not (at_most (swap o))
     go Less = refl
     go Equal = refl
     go Greater = refl

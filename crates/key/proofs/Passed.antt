@@ -9,8 +9,8 @@ use mathlib.Core.List.{List}
 use lib.ListN.{length, get_or, drop, drop_of_length-le}
 use lib.Seq.{drop-cons}
 use Rattle.key.specs.Order.{cmp_key, cmp_number, or_else}
-use Rattle.key.specs.declared.Order.{Order}
-use Rattle.key.specs.declared.Order.TheVariants.{Less, Equal, Greater}
+use Rattle.std.specs.declared.cmp.Ordering.{Ordering}
+use Rattle.std.specs.declared.cmp.Ordering.TheVariants.{Less, Equal, Greater}
 use Rattle.key.proofs.Linear.{number_less, number_greater}
 use Rattle.key.proofs.Digits.{Compared, compared, below, same, above, number_self}
 
@@ -43,7 +43,7 @@ module _ {a b : List ℕ} {i : ℕ} (p : Passed a b i) where
 
   -- unequal bytes decide
   pub differ :
-      {r : Order} → i < length a → i < length b → get_or a i 0 ≢ get_or b i 0 → r ≡ cmp_number (get_or a i 0) (get_or b i 0) → r ≡ cmp_key a b
+      {r : Ordering} → i < length a → i < length b → get_or a i 0 ≢ get_or b i 0 → r ≡ cmp_number (get_or a i 0) (get_or b i 0) → r ≡ cmp_key a b
   differ {r} ha hb d e = rw (p.rest, cmp_step a b i) (go (compared (get_or a i 0) (get_or b i 0)))
     where
       go :
@@ -62,7 +62,7 @@ module _ {a b : List ℕ} {i : ℕ} (p : Passed a b i) where
       }
 
   -- the shorter key has ended: the lengths decide
-  pub lengths : {r : Order} → min (length a) (length b) ≤ i → r ≡ cmp_number (length a) (length b) → r ≡ cmp_key a b
+  pub lengths : {r : Ordering} → min (length a) (length b) ≤ i → r ≡ cmp_number (length a) (length b) → r ≡ cmp_key a b
   lengths {r} m e = go (compared (length a) (length b))
     where
       go : Compared (length a) (length b) → r ≡ cmp_key a b

@@ -13,7 +13,7 @@ use lib.Seq.{take-take, take-add, take-suc}
 use Rattle.base.specs.Bytes.{bytes_drop, bytes_take}
 use Rattle.key.specs.Order.{cmp_key, cmp_number, or_else}
 use Rattle.key.specs.Word.{WordAt, ReversedAt, Agree, Further}
-use Rattle.key.specs.declared.Order.{Order}
+use Rattle.std.specs.declared.cmp.Ordering.{Ordering}
 use Rattle.key.proofs.Linear.{number_less, number_greater, key_self, key_order_is_total}
 use Rattle.key.proofs.Digits.{Compared, compared, below, same, above, or_else_assoc, number_self, digits_order, reversed_equal}
 use Rattle.key.proofs.Passed.{Passed, lengths}
@@ -69,7 +69,7 @@ module _ {a b : List ℕ} {i : ℕ} (p : Agree a b i) where
         passed.rest ∙ rw words (by_fronts 8 (drop i a) (drop i b) ha hb)
 
     -- unequal words decide
-    differ : {r : Order} → x ≢ y → r ≡ cmp_number x y → r ≡ cmp_key a b
+    differ : {r : Ordering} → x ≢ y → r ≡ cmp_number x y → r ≡ cmp_key a b
     differ {r} d e = rw by_words (go (compared x y))
       where
         go : Compared x y → r ≡ or_else (cmp_number x y) (cmp_key (drop 8 (drop i a)) (drop 8 (drop i b)))
@@ -126,14 +126,14 @@ module _ {a b : List ℕ} {i n x y : ℕ}
     (w : WordAt a i x)
     (z : WordAt b i y)
   where
-    pub turn_differ : {r : Order} → x ≢ y → r ≡ cmp_number x y → r ≡ cmp_key a b
+    pub turn_differ : {r : Ordering} → x ≢ y → r ≡ cmp_number x y → r ≡ cmp_key a b
     turn_differ d e = differ p m (omega arith) w z d e
 
     pub turn_same : x ≡ y → Agree a b (i + 8)
     turn_same e = onward p (omega arith) (omega arith) (same_bytes p m (omega arith) w z e)
 
 -- the last eight bytes of the shorter key, of which the first few may be passed
-module _ {a b : List ℕ} {n x y : ℕ} {r : Order}
+module _ {a b : List ℕ} {n x y : ℕ} {r : Ordering}
     (p : Agree a b (n - 8))
     (m : n ≡ min (length a) (length b))
     (k : 8 ≤ n)

@@ -1,12 +1,12 @@
 -- The promises on the order of keys. Their proofs are in proofs/Linear.antt.
 use Rattle.std.specs.Prelude.{ℕ, ◌<◌, ◌≡◌, List, ◌∷◌, ◌++◌}
 use Rattle.key.specs.Order.{Key, cmp_key, swap}
-use Rattle.key.specs.declared.Order.{Order}
-use Rattle.key.specs.declared.Order.TheVariants.{Less, Equal}
+use Rattle.std.specs.declared.cmp.Ordering.{Ordering}
+use Rattle.std.specs.declared.cmp.Ordering.TheVariants.{Less, Equal}
 
 -- A comparison is a total order whose ties are equalities: exchange turns the answer round, equal answers mean equal
 -- values, and less is transitive.
-pub record Linear {A : Type 0} (cmp : A → A → Order) : Type 0 where
+pub record Linear {A : Type 0} (cmp : A → A → Ordering) : Type 0 where
   pub swaps : (a b : A) → cmp b a ≡ swap (cmp a b)
   pub equal : (a b : A) → cmp a b ≡ Equal → a ≡ b
   pub trans : (a b c : A) → cmp a b ≡ Less → cmp b c ≡ Less → cmp a c ≡ Less

@@ -2,15 +2,10 @@
 #![tactic(auto)]
 
 ghost use Rattle.std.specs.Prelude.{◌≡◌, ◌+◌, ◌<◌, ◌≤◌, min, length, take, drop};
-ghost use Rattle.key.specs.Order.{cmp_key, cmp_number, or_else, sign, is_less, is_equal, at_most};
+ghost use Rattle.key.specs.Order.{cmp_key, cmp_number, sign};
 ghost use Rattle.key.specs.Word.{digits, WordAt, ReversedAt, Agree, Further};
 
-#[derive(Clone, Copy)]
-pub enum Order {
-    Less,
-    Equal,
-    Greater,
-}
+use std::cmp::Ordering;
 
 // The eight bytes from i as one number, most significant first.
 pub fn word(a: &[u8], i: usize) -> u64
@@ -47,21 +42,21 @@ pub fn reversed(a: &[u8], i: usize) -> u64
 }
 
 #[tactic(auto, using(crate::proofs::Digits::number_exits))]
-fn cmp_number(x: u64, y: u64) -> Order
+fn cmp_number(x: u64, y: u64) -> Ordering
     ensures { result ≡ cmp_number x y }
 {
     if x < y {
-        Order::Less
+        Ordering::Less
     } else if y < x {
-        Order::Greater
+        Ordering::Greater
     } else {
-        Order::Equal
+        Ordering::Equal
     }
 }
 
 // The order of two keys, a byte at a time: for a key with fewer than eight.
 #[tactic(auto, using(crate::proofs::Passed::kept))]
-fn cmp_bytes(a: &[u8], b: &[u8]) -> Order
+fn cmp_bytes(a: &[u8], b: &[u8]) -> Ordering
     ensures { result ≡ cmp_key a.now b.now }
 {
     for i in 0..shorter(a, b) {
@@ -118,7 +113,7 @@ pub fn agreed(a: &[u8], b: &[u8], n: usize) -> usize
 // Eight bytes at a time, since the order of equally many bytes is that of their numbers. The last eight of the shorter
 // key may overlap the ones before, which are equal, so that no bytes are left over.
 #[tactic(auto, using(crate::proofs::Words::kept))]
-pub fn cmp(a: &[u8], b: &[u8]) -> Order
+pub fn cmp(a: &[u8], b: &[u8]) -> Ordering
     ensures { result ≡ cmp_key a.now b.now }
 {
     let n = shorter(a, b);
@@ -141,38 +136,13 @@ pub fn cmp(a: &[u8], b: &[u8]) -> Order
     }
 }
 
-// The first order decides unless it is equal.
-pub fn or_else(o: Order, p: Order) -> Order
-    ensures { result ≡ or_else o p }
-{
-    if is_equal(o) { p } else { o }
-}
-
-pub fn is_less(o: Order) -> bool
-    ensures { result ≡ is_less o }
-{
-    matches!(o, Order::Less)
-}
-
-pub fn at_most(o: Order) -> bool
-    ensures { result ≡ at_most o }
-{
-    matches!(o, Order::Less | Order::Equal)
-}
-
-pub fn is_equal(o: Order) -> bool
-    ensures { result ≡ is_equal o }
-{
-    matches!(o, Order::Equal)
-}
-
 // An order as the number that a call answers: -1, 0 or 1.
-pub fn number(o: Order) -> i8
+pub fn number(o: Ordering) -> i8
     ensures { result ≡ sign o }
 {
     match o {
-        Order::Less => -1,
-        Order::Equal => 0,
-        Order::Greater => 1,
+        Ordering::Less => -1,
+        Ordering::Equal => 0,
+        Ordering::Greater => 1,
     }
 }

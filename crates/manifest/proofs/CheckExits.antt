@@ -9,7 +9,7 @@ use lib.ListN.{take, drop}
 use borrow.Author.Tests.{le-leb, lt-leb, lt-ltb, le-ltb}
 use Rattle.base.specs.Pick.{pick}
 use Rattle.key.specs.Order.{at_most}
-use Rattle.key.specs.declared.Order.{Order}
+use Rattle.std.specs.declared.cmp.Ordering.{Ordering}
 use Rattle.comparable_range.specs.Range.{bound_of, non_empty, cmp_bound}
 use Rattle.comparable_range.specs.declared.Kind.{Kind}
 use Rattle.comparable_range.specs.declared.Kind.TheVariants.{Unbounded, Included, Excluded}
@@ -116,7 +116,7 @@ module _ (s : List ℕ) (v : ViewSpan) {a : Bool} (ha : a ≡ visible_passes (vi
 pub ruleset fault_exits = (fault_4, fault_5, fault_7, fault_none)
 
 -- ---- order_fault, lesser
-module _ (s : List ℕ) (a b : BoundSpan) {o : Order} {t : Bool} (h : o ≡ cmp_bound true (bound_in s a) (bound_in s b)) (w : t ≡ at_most o) where
+module _ (s : List ℕ) (a b : BoundSpan) {o : Ordering} {t : Bool} (h : o ≡ cmp_bound true (bound_in s a) (bound_in s b)) (w : t ≡ at_most o) where
   order_is : at_most (cmp_bound true (bound_in s a) (bound_in s b)) ≡ t
   order_is = sym (w ∙ rw h)
 

@@ -14,8 +14,8 @@ use Rattle.base.specs.Outcome.{Outcome}
 use lib.Dec.{ltb}
 use Rattle.base.specs.Pick.{pick, and_first, and_second}
 use Rattle.key.specs.Order.{Key, cmp_key, at_most, is_less, key_at_most, key_below}
-use Rattle.key.specs.declared.Order.{Order}
-use Rattle.key.specs.declared.Order.TheVariants.{Greater}
+use Rattle.std.specs.declared.cmp.Ordering.{Ordering}
+use Rattle.std.specs.declared.cmp.Ordering.TheVariants.{Greater}
 use Rattle.format.specs.Got.{got}
 use Rattle.format.specs.Number.{read_number}
 use Rattle.format.specs.Range.{BoundInside}
@@ -39,7 +39,7 @@ use Rattle.partitioned_keyspace.proofs.KeyTests.{below_below}
 use Rattle.partitioned_keyspace.proofs.PassLaws.{last_from, last_more, with_block_is}
 
 -- ---- still_ascends, with_block
-pub not_below_lem : {t : Bool} (a b : Key) {o : Order} {r : Bool} → t ≡ true → o ≡ cmp_key a b → r ≡ at_most o → r ≡ (t && key_at_most a b)
+pub not_below_lem : {t : Bool} (a b : Key) {o : Ordering} {r : Bool} → t ≡ true → o ≡ cmp_key a b → r ≡ at_most o → r ≡ (t && key_at_most a b)
 not_below_lem a b e f g = rw (e, g, f)
 
 -- a first key below the start is below an end that is not below the start
@@ -51,7 +51,7 @@ led_less p seen first s = go (ltb p.at_most seen)
     go false h = h
 
 pub below_end :
-    (x : IndexPoints) (first s e : Key) {t b : Bool} {o : Order}
+    (x : IndexPoints) (first s e : Key) {t b : Bool} {o : Ordering}
     → t ≡ key_at_most s e
     → o ≡ led_order x.start x.partitions first s
     → b ≡ (t && is_less o)
@@ -74,7 +74,7 @@ grown_led p seen first x = go (ltb p.at_most seen)
     go false = refl
 
 pub one_block :
-    (x : IndexPoints) (before first s e : Key) {o u : Order} {a b : KeyPoint} {t : Bool}
+    (x : IndexPoints) (before first s e : Key) {o u : Ordering} {a b : KeyPoint} {t : Bool}
     → o ≡ led_order x.start x.partitions first s
     → u ≡ led_order x.end x.partitions first e
     → a ≡ grown_by x.start x.partitions o
@@ -87,7 +87,7 @@ one_block x before first s e ho hu ha hb h =
 
 -- ---- blocks_read
 -- whether the end is not below the start
-pub in_order : (a b : Key) {o : Order} {r : Bool} → o ≡ cmp_key a b → r ≡ at_most o → r ≡ key_at_most a b
+pub in_order : (a b : Key) {o : Ordering} {r : Bool} → o ≡ cmp_key a b → r ≡ at_most o → r ≡ key_at_most a b
 in_order a b f g = rw (g, f)
 
 pub record BlocksSeen (s : List ℕ) (from n : ℕ) (start end : Key) (x : IndexPoints) (before : BoundSpan) (at left : ℕ) : Type 0 where

@@ -14,8 +14,8 @@ use lib.Seq.{drop-cons}
 use lib.Dec.{leb, ltb, leb-zero, leb-suc-suc}
 use borrow.Author.Tests.{le-ltb, le-leb, ltb-true, ltb-false}
 use Rattle.key.specs.Order.{Key, cmp_key}
-use Rattle.key.specs.declared.Order.{Order}
-use Rattle.key.specs.declared.Order.TheVariants.{Less, Equal, Greater}
+use Rattle.std.specs.declared.cmp.Ordering.{Ordering}
+use Rattle.std.specs.declared.cmp.Ordering.TheVariants.{Less, Equal, Greater}
 use Rattle.partitioned_keyspace.specs.Partitions.{ascends, passes_test, partition_point, starts_with, first_before, last_before, first_partition_including_key, last_partition_including_key}
 use Rattle.partitioned_keyspace.specs.Laws.{may_hold, is_from_to, is_none, HoldersAreFromFirstToLast, FirstAndLastAreNoneTogether, NoneMeansNoHolder}
 use Rattle.partitioned_keyspace.specs.declared.Test.TheVariants.{Below, AtOrBelow}
@@ -84,7 +84,7 @@ pub none_means_no_holder : NoneMeansNoHolder
 none_means_no_holder ks x p h e = holders_are_from_first_to_last ks x p h ∙ rw e
 
 none_by_order :
-    (k : Key) (ks : List Key) (x : Key) (o : Order)
+    (k : Key) (ks : List Key) (x : Key) (o : Ordering)
     → cmp_key k x ≡ o
     → is_none (first_partition_including_key (k ∷ ks) x) ≡ is_none (last_partition_including_key (k ∷ ks) x)
 unfolding first_partition_including_key last_partition_including_key partition_point starts_with

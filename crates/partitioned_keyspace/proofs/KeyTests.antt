@@ -9,8 +9,8 @@ use lib.ListN.{length, get_or}
 use borrow.Author.Tests.{not-true}
 use Rattle.base.specs.Pick.{and_first, and_second}
 use Rattle.key.specs.Order.{Key, cmp_key, at_most, is_less, is_equal, key_at_most, key_below}
-use Rattle.key.specs.declared.Order.{Order}
-use Rattle.key.specs.declared.Order.TheVariants.{Less, Equal, Greater}
+use Rattle.std.specs.declared.cmp.Ordering.{Ordering}
+use Rattle.std.specs.declared.cmp.Ordering.TheVariants.{Less, Equal, Greater}
 use Rattle.key.proofs.Linear.{key_order_is_total, below_not}
 use Rattle.comparable_range.specs.Range.{included, cmp_bound}
 use Rattle.manifest.specs.Checks.{ascend_from}
@@ -22,7 +22,7 @@ use Rattle.partitioned_keyspace.specs.declared.Test.TheVariants.{Below, AtOrBelo
 pub at_most_trans : (a b c : Key) → key_at_most a b ≡ true → key_at_most b c ≡ true → key_at_most a c ≡ true
 at_most_trans a b c h k = go (cmp_key a b) (cmp_key b c) refl refl h k
   where
-    go : (o p : Order) → cmp_key a b ≡ o → cmp_key b c ≡ p → at_most o ≡ true → at_most p ≡ true → key_at_most a c ≡ true
+    go : (o p : Ordering) → cmp_key a b ≡ o → cmp_key b c ≡ p → at_most o ≡ true → at_most p ≡ true → key_at_most a c ≡ true
     go Less Less e f h k = rw (key_order_is_total.trans a b c e f)
     go Less Equal e f h k = rw (← key_order_is_total.equal b c f, e)
     go Less Greater e f h k = cc
@@ -36,7 +36,7 @@ at_most_trans a b c h k = go (cmp_key a b) (cmp_key b c) refl refl h k
 pub below_at_most : (a b : Key) → key_below a b ≡ true → key_at_most a b ≡ true
 below_at_most a b h = go (cmp_key a b) h
   where
-    go : (o : Order) → is_less o ≡ true → at_most o ≡ true
+    go : (o : Ordering) → is_less o ≡ true → at_most o ≡ true
     go Less h = refl
     go Equal h = cc
     go Greater h = cc
@@ -66,7 +66,7 @@ not_below_lem a b = rw (below_not a b) (go (key_at_most b a))
 pub equal_is : (a b : Key) → key_equal a b ≡ (not (key_below a b) && key_at_most a b)
 equal_is a b = go (cmp_key a b)
   where
-    go : (o : Order) → is_equal o ≡ (not (is_less o) && at_most o)
+    go : (o : Ordering) → is_equal o ≡ (not (is_less o) && at_most o)
     go Less = refl
     go Equal = refl
     go Greater = refl
@@ -74,7 +74,7 @@ equal_is a b = go (cmp_key a b)
 pub equal_same : (a b : Key) → key_equal a b ≡ true → a ≡ b
 equal_same a b h = key_order_is_total.equal a b (go (cmp_key a b) h)
   where
-    go : (o : Order) → is_equal o ≡ true → o ≡ Equal
+    go : (o : Ordering) → is_equal o ≡ true → o ≡ Equal
     go Less h = cc
     go Equal h = refl
     go Greater h = cc

@@ -11,8 +11,8 @@ use lib.Dec.{ltb, leb-suc-suc}
 use borrow.Author.Tests.{lt-ltb, le-ltb, ltb-true, ltb-false}
 use Rattle.base.specs.Pick.{pick}
 use Rattle.key.specs.Order.{Key, cmp_key, is_less, at_most, key_at_most}
-use Rattle.key.specs.declared.Order.{Order}
-use Rattle.key.specs.declared.Order.TheVariants.{Less, Equal, Greater}
+use Rattle.std.specs.declared.cmp.Ordering.{Ordering}
+use Rattle.std.specs.declared.cmp.Ordering.TheVariants.{Less, Equal, Greater}
 use Rattle.comparable_range.specs.Range.{included, cmp_bound}
 use Rattle.manifest.specs.Checks.{ascend_from}
 use Rattle.partitioned_keyspace.specs.Partitions.{ascends, passes_test, partition_point}
@@ -58,7 +58,7 @@ abbrev both : ℕ → ℕ → KeyPoint
 both b a = record { below = b; at_most = a }
 
 module _ (b a l : ℕ) (h : b ≤ a) (k : a ≤ l) where
-  still : (o : Order) → a < l → both b a ≡ both (counted b l (is_less o)) (counted a l (at_most o))
+  still : (o : Ordering) → a < l → both b a ≡ both (counted b l (is_less o)) (counted a l (at_most o))
   still o m = rw (lt-ltb b l (omega arith), lt-ltb a l m)
 
   unseen : b ≡ counted b l false
@@ -68,14 +68,14 @@ module _ (b a l : ℕ) (h : b ≤ a) (k : a ≤ l) where
       go true e = refl
       go false e = let z : l ≤ b = ltb-false b l e in omega arith
 
-  grows : (o : Order) → l ≤ a → grown_by (both b a) l o ≡ both (counted b l (is_less o)) (counted a l (at_most o))
+  grows : (o : Ordering) → l ≤ a → grown_by (both b a) l o ≡ both (counted b l (is_less o)) (counted a l (at_most o))
   grows Less m = rw (le-ltb a l m)
   grows Equal m = rw (le-ltb a l m) (ap (λ n. both n (l + 1)) unseen)
   grows Greater m =
       let z : a ≡ l = omega arith in
       rw (le-ltb a l m) (ap (λ n. both n a) unseen ∙ ap (both (counted b l false)) z)
 
-  by_seen : (o : Order) (t : Bool) → ltb a l ≡ t → pick t (both b a) (grown_by (both b a) l o) ≡ both (counted b l (is_less o)) (counted a l (at_most o))
+  by_seen : (o : Ordering) (t : Bool) → ltb a l ≡ t → pick t (both b a) (grown_by (both b a) l o) ≡ both (counted b l (is_less o)) (counted a l (at_most o))
   by_seen o true e = still o (ltb-true a l e)
   by_seen o false e = grows o (ltb-false a l e)
 

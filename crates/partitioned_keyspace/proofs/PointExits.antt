@@ -6,8 +6,8 @@ use mathlib.Core.Bool.{Bool, true, false, true≢false}
 use borrow.Author.Tests.{lt-ltb, le-ltb}
 use Rattle.base.specs.Outcome.{answer}
 use Rattle.key.specs.Order.{Key, cmp_key, is_less, is_equal}
-use Rattle.key.specs.declared.Order.{Order}
-use Rattle.key.specs.declared.Order.TheVariants.{Less, Equal, Greater}
+use Rattle.std.specs.declared.cmp.Ordering.{Ordering}
+use Rattle.std.specs.declared.cmp.Ordering.TheVariants.{Less, Equal, Greater}
 use Rattle.comparable_range.specs.declared.Kind.{Kind}
 use Rattle.comparable_range.specs.declared.Kind.TheVariants.{Included, Excluded}
 use Rattle.partitioned_keyspace.specs.Partitions.{key_equal}
@@ -19,7 +19,7 @@ use Rattle.partitioned_keyspace.specs.declared.point.KeyPoint.{KeyPoint}
 use Rattle.partitioned_keyspace.specs.declared.blocks.IndexPoints.{IndexPoints}
 
 -- ---- key_equal, is_point
-pub same_key : (a b : Key) {o : Order} {r : Bool} → o ≡ cmp_key a b → r ≡ is_equal o → r ≡ key_equal a b
+pub same_key : (a b : Key) {o : Ordering} {r : Bool} → o ≡ cmp_key a b → r ≡ is_equal o → r ≡ key_equal a b
 same_key a b e f = rw (f, e)
 
 pub is_one : (s e : Key) {ks ke : Kind} {r : Bool} → ks ≡ Included → ke ≡ Included → r ≡ key_equal s e → r ≡ is_point ks s ke e
@@ -27,13 +27,13 @@ is_one s e p q f = rw (p, q, f)
 
 -- ---- grown
 module _ (p : KeyPoint) (seen : ℕ) where
-  pub after_equal : {o : Order} → o ≡ Less → p.below < seen → record { below = p.below; at_most = seen + 1 } ≡ grown_by p seen o
+  pub after_equal : {o : Ordering} → o ≡ Less → p.below < seen → record { below = p.below; at_most = seen + 1 } ≡ grown_by p seen o
   after_equal e h = rw (e, lt-ltb p.below seen h)
 
-  pub all_below : {o : Order} → o ≡ Less → seen ≤ p.below → record { below = seen + 1; at_most = seen + 1 } ≡ grown_by p seen o
+  pub all_below : {o : Ordering} → o ≡ Less → seen ≤ p.below → record { below = seen + 1; at_most = seen + 1 } ≡ grown_by p seen o
   all_below e h = rw (e, le-ltb p.below seen h)
 
-  pub one_equal : {o : Order} → o ≡ Equal → record { below = p.below; at_most = seen + 1 } ≡ grown_by p seen o
+  pub one_equal : {o : Ordering} → o ≡ Equal → record { below = p.below; at_most = seen + 1 } ≡ grown_by p seen o
   one_equal e = rw e
 
 pub ruleset grown_exits = (after_equal, all_below, one_equal)
@@ -43,10 +43,10 @@ module _ (p : KeyPoint) (seen : ℕ) (first x : Key) where
   pub one_above : p.at_most < seen → Greater ≡ led_order p seen first x
   one_above h = rw (lt-ltb p.at_most seen h)
 
-  pub compared : {o : Order} → seen ≤ p.at_most → o ≡ cmp_key first x → o ≡ led_order p seen first x
+  pub compared : {o : Ordering} → seen ≤ p.at_most → o ≡ cmp_key first x → o ≡ led_order p seen first x
   compared h e = rw (e, le-ltb p.at_most seen h)
 
-  is_less_lem : (o : Order) → is_less o ≡ true → Less ≡ o
+  is_less_lem : (o : Ordering) → is_less o ≡ true → Less ≡ o
   is_less_lem Less h = refl
   is_less_lem Equal h = absurd (true≢false (sym h))
   is_less_lem Greater h = absurd (true≢false (sym h))

@@ -14,8 +14,8 @@ use lib.Dec.{leb, ltb, leb-suc-suc}
 use borrow.Author.Tests.{lt-ltb, leb-true, leb-false}
 use Rattle.base.specs.Pick.{pick}
 use Rattle.key.specs.Order.{Key, cmp_key}
-use Rattle.key.specs.declared.Order.{Order}
-use Rattle.key.specs.declared.Order.TheVariants.{Less, Equal, Greater}
+use Rattle.std.specs.declared.cmp.Ordering.{Ordering}
+use Rattle.std.specs.declared.cmp.Ordering.TheVariants.{Less, Equal, Greater}
 use Rattle.comparable_range.specs.Range.{included, bound_of}
 use Rattle.comparable_range.specs.declared.Kind.{Kind}
 use Rattle.comparable_range.specs.declared.Kind.TheVariants.{Unbounded, Included, Excluded}
@@ -37,7 +37,7 @@ some_before n o =
     rw (lt-ltb 0 (suc n) (omega arith), z)
 
 first_by_order :
-    (k : Key) (ks : List Key) (x : Key) (o : Order)
+    (k : Key) (ks : List Key) (x : Key) (o : Ordering)
     → cmp_key k x ≡ o
     → first_of (point_of (k ∷ ks) x) ≡ first_partition_including_key (k ∷ ks) x
 unfolding first_partition_including_key partition_point starts_with

@@ -4,8 +4,8 @@ use Rattle.std.proofs.Math.Option.{Option, none, some}
 use Rattle.base.specs.Pick.{pick}
 use Rattle.base.specs.Outcome.{Outcome, stop, answer, and_then}
 use Rattle.key.specs.Order.{Key, cmp_key, key_at_most, key_below}
-use Rattle.key.specs.declared.Order.{Order}
-use Rattle.key.specs.declared.Order.TheVariants.{Less, Equal, Greater}
+use Rattle.std.specs.declared.cmp.Ordering.{Ordering}
+use Rattle.std.specs.declared.cmp.Ordering.TheVariants.{Less, Equal, Greater}
 use Rattle.comparable_range.specs.declared.Kind.{Kind}
 use Rattle.comparable_range.specs.declared.Kind.TheVariants.{Unbounded, Included, Excluded}
 use Rattle.format.specs.declared.range.BoundSpan.{BoundSpan}
@@ -27,7 +27,7 @@ point_of ks x =
     record { below = partition_point (passes_test Below x) ks; at_most = partition_point (passes_test AtOrBelow x) ks }
 
 -- with one more first key, by its order to the key, where all that were seen before are at or below it
-abbrev pub grown_by : KeyPoint → ℕ → Order → KeyPoint
+abbrev pub grown_by : KeyPoint → ℕ → Ordering → KeyPoint
 grown_by p seen Less = record { below = pick (ltb p.below seen) p.below (seen + 1); at_most = seen + 1 }
 grown_by p seen Equal = record { below = p.below; at_most = seen + 1 }
 grown_by p seen Greater = p
@@ -37,7 +37,7 @@ unfoldable pub with_first : KeyPoint → ℕ → Key → Key → KeyPoint
 with_first p seen first x = pick (ltb p.at_most seen) p (grown_by p seen (cmp_key first x))
 
 -- its order to the key as far as it counts
-abbrev pub led_order : KeyPoint → ℕ → Key → Key → Order
+abbrev pub led_order : KeyPoint → ℕ → Key → Key → Ordering
 led_order p seen first x = pick (ltb p.at_most seen) Greater (cmp_key first x)
 
 -- a flag that is set only if a first key is below a key

@@ -9,7 +9,7 @@ ghost use Rattle.partitioned_keyspace.specs.KeyPoints.{nothing_seen, key_span, w
 use crate::point::{KeyPoint, grown, led, led_to_end};
 use comparable_range::Kind;
 use format::BoundSpan;
-use key::Order;
+use std::cmp::Ordering;
 use records::BlockRead;
 
 #[derive(Clone, Copy)]
@@ -31,17 +31,17 @@ fn still_ascends(so_far: bool, before: &[u8], first: &[u8]) -> bool
     ensures { result ≡ (so_far && key_at_most before.now first.now) }
 {
     if so_far {
-        return key::at_most(key::cmp(before, first));
+        return key::cmp(before, first).is_le();
     }
     false
 }
 
 // Whether a first key of this order to the start is below the end, as far as the start tells.
-fn below_start(ordered: bool, o: Order) -> bool
+fn below_start(ordered: bool, o: Ordering) -> bool
     ensures { result ≡ (ordered && is_less o) }
 {
     if ordered {
-        return key::is_less(o);
+        return o.is_lt();
     }
     false
 }
@@ -105,7 +105,7 @@ fn blocks_read<'a>(s: &'a [u8], from: usize, n: usize, start: &'a [u8], end: &'a
     requires { from ≤ length s.now }
     ensures { reading_of result ≡ points_in start.now end.now (ended (read_many block.read n (drop from s.now))) }
 {
-    let ordered = key::at_most(key::cmp(start, end));
+    let ordered = key::cmp(start, end).is_le();
     let mut x = nothing_seen();
     let mut before = key_span(from, 0);
     let mut at = from;

@@ -7,7 +7,7 @@ ghost use Rattle.partitioned_keyspace.specs.KeyPoints.{grown_by, led_order, Know
 
 use crate::{Found, Test};
 use comparable_range::Kind;
-use key::Order;
+use std::cmp::Ordering;
 
 // How many first keys, from the first on, stand below a key, and how many at or below it.
 #[derive(Clone, Copy)]
@@ -26,16 +26,16 @@ pub enum Pointed {
 pub fn key_equal(a: &[u8], b: &[u8]) -> bool
     ensures { result ≡ key_equal a.now b.now }
 {
-    key::is_equal(key::cmp(a, b))
+    key::cmp(a, b).is_eq()
 }
 
 // With one more first key, by its order to the key. One below it counts only if none before was equal.
-pub fn grown(p: KeyPoint, seen: usize, o: Order) -> KeyPoint
+pub fn grown(p: KeyPoint, seen: usize, o: Ordering) -> KeyPoint
     requires { seen + 1 < 2 ^ 64 }
     ensures { result ≡ grown_by p seen o }
 {
     match o {
-        Order::Less => {
+        Ordering::Less => {
             if p.below < seen {
                 return KeyPoint {
                     below: p.below,
@@ -47,34 +47,34 @@ pub fn grown(p: KeyPoint, seen: usize, o: Order) -> KeyPoint
                 at_most: seen + 1,
             }
         }
-        Order::Equal => KeyPoint {
+        Ordering::Equal => KeyPoint {
             below: p.below,
             at_most: seen + 1,
         },
-        Order::Greater => p,
+        Ordering::Greater => p,
     }
 }
 
 // The order of one more first key to a key. Once a first key was above it, no more are compared: none of them counts.
-pub fn led(p: KeyPoint, seen: usize, first: &[u8], key: &[u8]) -> Order
+pub fn led(p: KeyPoint, seen: usize, first: &[u8], key: &[u8]) -> Ordering
     ensures { result ≡ led_order p seen first.now key.now }
 {
     if p.at_most < seen {
-        return Order::Greater;
+        return Ordering::Greater;
     }
     key::cmp(first, key)
 }
 
 // The same to the end of a range. A first key that is known to be below it is not compared.
-pub fn led_to_end(p: KeyPoint, seen: usize, first: &[u8], end: &[u8], below: bool) -> Order
+pub fn led_to_end(p: KeyPoint, seen: usize, first: &[u8], end: &[u8], below: bool) -> Ordering
     requires { KnownBelow below first.now end.now }
     ensures { result ≡ led_order p seen first.now end.now }
 {
     if p.at_most < seen {
-        return Order::Greater;
+        return Ordering::Greater;
     }
     if below {
-        return Order::Less;
+        return Ordering::Less;
     }
     key::cmp(first, end)
 }

@@ -54,7 +54,7 @@ fn below(s: &[u8], a: usize, b: usize) -> bool
     requires fact_2 { T (is_got (read_key (drop b s.now))) }
     ensures { result ≡ key_below (key_there s.now a) (key_there s.now b) }
 {
-    key::is_less(key::cmp(key_part(s, a), key_part(s, b)))
+    key::cmp(key_part(s, a), key_part(s, b)).is_lt()
 }
 
 // Whether a range begins at a key. Keys are compared last, and only where all else says so.

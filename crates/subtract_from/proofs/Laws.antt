@@ -13,7 +13,7 @@ use Rattle.key.specs.Order.{Key}
 use Rattle.comparable_range.specs.Range.{Bound, unbounded, included, excluded, Range, non_empty, of, start_side, end_side, chosen, overlap, intersect_sides, intersect}
 use Rattle.comparable_range.specs.declared.Side.{Side}
 use Rattle.comparable_range.specs.declared.Side.TheVariants.{First, Second}
-use Rattle.comparable_range.specs.declared.Sides.TheVariants.{Nothing, From}
+use Rattle.std.specs.Prelude.{None, Some}
 use Rattle.comparable_range.specs.Cut.{before, ◌≼◌, start_cut, end_cut}
 use Rattle.comparable_range.proofs.Cut.{≼_trans, ≺-≼}
 use Rattle.comparable_range.proofs.Lattice.{sooner-≼-right, ≼-later-right}
@@ -57,7 +57,7 @@ intersect_all : (P : Range → Type 0) (r q : Range) → (non_empty (overlap r q
 unfolding intersect_sides
 intersect_all P r q f = go (non_empty (overlap r q)) f
   where
-    go : (t : Bool) → (t ≡ true → P (overlap r q)) → All P (listed (chosen r q (pick t (From (start_side r.start q.start) (end_side r.end q.end)) Nothing)))
+    go : (t : Bool) → (t ≡ true → P (overlap r q)) → All P (listed (chosen r q (pick t (Some (start_side r.start q.start, end_side r.end q.end)) None)))
     go true f = (f refl, tt)
     go false f = tt
 

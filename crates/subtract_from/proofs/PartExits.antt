@@ -12,8 +12,8 @@ use Rattle.comparable_range.specs.Range.{unbounded, included, excluded, bound_of
 use Rattle.comparable_range.specs.declared.Kind.{Kind}
 use Rattle.comparable_range.specs.declared.Kind.TheVariants.{Unbounded, Included, Excluded}
 use Rattle.comparable_range.specs.declared.Side.{Side}
-use Rattle.comparable_range.specs.declared.Sides.{Sides}
-use Rattle.comparable_range.specs.declared.Sides.TheVariants.{Nothing as NoSides, From}
+use Rattle.comparable_range.specs.Range.{Sides}
+use Rattle.std.specs.Prelude.{None, Some}
 use Rattle.format.specs.Range.{bound_in, range_in, BoundInside}
 use Rattle.format.specs.declared.range.BoundSpan.{BoundSpan}
 use Rattle.format.specs.declared.span.RangeSpan.{RangeSpan}
@@ -26,12 +26,12 @@ use Rattle.subtract_from.specs.Found.{PartFound}
 
 -- ---- cut
 module _ (a b : List ℕ) (r q : RangeSpan) {w : Sides} (h : w ≡ intersect_sides (range_in a r.start r.end) (range_in b q.start q.end)) where
-  pub cut_none : w ≡ NoSides → PartFound a b (intersect (range_in a r.start r.end) (range_in b q.start q.end)) Nothing
+  pub cut_none : w ≡ None → PartFound a b (intersect (range_in a r.start r.end) (range_in b q.start q.end)) Nothing
   cut_none e = record { meaning = rw (← h, e); inside = tt }
 
   pub cut_met :
       {s e : Side} {u v : BoundSpan}
-      → w ≡ From s e
+      → w ≡ Some (s, e)
       → u ≡ of s r.start q.start
       → v ≡ of e r.end q.end
       → BoundInside a r.start

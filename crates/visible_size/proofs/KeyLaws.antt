@@ -4,8 +4,8 @@ use Rattle.std.proofs.Common.{◌≡◌, ℕ, zero, suc, ◌≤◌, Bool, true, 
 use mathlib.Core.Option.{Option, none, some}
 use Rattle.base.specs.Pick.{pick}
 use Rattle.key.specs.Order.{Key, cmp_key, cmp_number, or_else, at_most, is_less, is_equal, key_at_most}
-use Rattle.key.specs.declared.Order.{Order}
-use Rattle.key.specs.declared.Order.TheVariants.{Less, Equal, Greater}
+use Rattle.std.specs.declared.cmp.Ordering.{Ordering}
+use Rattle.std.specs.declared.cmp.Ordering.TheVariants.{Less, Equal, Greater}
 use Rattle.key.proofs.Linear.{or_else_equal, key_order_is_total, key_self, number_greater}
 use Rattle.key.proofs.Digits.{Compared, below, same, above, compared, number_self}
 use Rattle.comparable_range.specs.Range.{Bound, unbounded, included, excluded, Range, cmp_bound, cmp_range}
@@ -16,7 +16,7 @@ use Rattle.visible_size.specs.KeyLaws.{SameRangeIsEquality, SameAsItself, Common
 use Rattle.visible_size.specs.declared.VisibleFraction.TheVariants.{Whole}
 
 -- ---- ranges that are the same
-is_equal_lem : (o : Order) → is_equal o ≡ true → o ≡ Equal
+is_equal_lem : (o : Ordering) → is_equal o ≡ true → o ≡ Equal
 is_equal_lem Less e = absurd (true≢false (sym e))
 is_equal_lem Equal e = refl
 is_equal_lem Greater e = absurd (true≢false (sym e))
@@ -90,13 +90,13 @@ common_prefix_is_longest (x ∷ a) (y ∷ b) (suc n) h k e =
     rw (eq-eqb x y (ap (head_or 0) e)) (omega (arith, i))
 
 -- a byte at most z, and z at most that byte: they are the same, and what follows decides
-not_greater : {A : Type 0} (o p : Order) → o ≡ Greater → at_most (or_else o p) ≡ true → A
+not_greater : {A : Type 0} (o p : Ordering) → o ≡ Greater → at_most (or_else o p) ≡ true → A
 not_greater Less p e h = absurd (true≢false (ap is_less e))
 not_greater Equal p e h = absurd (true≢false (ap is_equal e))
 not_greater Greater p e h = absurd (true≢false (sym h))
 
 byte_between :
-    (x z : ℕ) (o p : Order)
+    (x z : ℕ) (o p : Ordering)
     → at_most (or_else (cmp_number x z) o) ≡ true
     → at_most (or_else (cmp_number z x) p) ≡ true
     → (z ≡ x) × ((at_most o ≡ true) × (at_most p ≡ true))

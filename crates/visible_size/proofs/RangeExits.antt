@@ -3,8 +3,8 @@
 use Rattle.std.proofs.Common.{◌≡◌, ℕ, Bool, true, false, T, sym, refl, ◌∙◌, true≢false}
 use lib.Ieee.{Float, le}
 use Rattle.key.specs.Order.{Key, is_equal, or_else}
-use Rattle.key.specs.declared.Order.{Order}
-use Rattle.key.specs.declared.Order.TheVariants.{Less, Equal, Greater}
+use Rattle.std.specs.declared.cmp.Ordering.{Ordering}
+use Rattle.std.specs.declared.cmp.Ordering.TheVariants.{Less, Equal, Greater}
 use Rattle.comparable_range.specs.Range.{Range, cmp_bound, cmp_range}
 use Rattle.format.specs.Span.{bound_key}
 use Rattle.visible_size.specs.Steps.{one64, common_prefix_len, range_len, lengths_fraction, skip_of, same_range, ranges_fraction}
@@ -13,18 +13,18 @@ use Rattle.visible_size.specs.declared.VisibleFraction.{VisibleFraction}
 use Rattle.visible_size.specs.declared.VisibleFraction.TheVariants.{Whole}
 
 -- ---- same_range
-first_equal : (o p : Order) → is_equal o ≡ true → is_equal p ≡ is_equal (or_else o p)
+first_equal : (o p : Ordering) → is_equal o ≡ true → is_equal p ≡ is_equal (or_else o p)
 first_equal Less p h = absurd (true≢false (sym h))
 first_equal Equal p h = refl
 first_equal Greater p h = absurd (true≢false (sym h))
 
-first_unequal : (o p : Order) → is_equal o ≡ false → false ≡ is_equal (or_else o p)
+first_unequal : (o p : Ordering) → is_equal o ≡ false → false ≡ is_equal (or_else o p)
 first_unequal Less p h = refl
 first_unequal Equal p h = absurd (true≢false h)
 first_unequal Greater p h = refl
 
-module _ (r q : Range) {o : Order} {t : Bool} (e : o ≡ cmp_bound true r.start q.start) (f : t ≡ is_equal o) where
-  pub same_starts : {p : Order} {u : Bool} → t ≡ true → p ≡ cmp_bound false r.end q.end → u ≡ is_equal p → u ≡ same_range r q
+module _ (r q : Range) {o : Ordering} {t : Bool} (e : o ≡ cmp_bound true r.start q.start) (f : t ≡ is_equal o) where
+  pub same_starts : {p : Ordering} {u : Bool} → t ≡ true → p ≡ cmp_bound false r.end q.end → u ≡ is_equal p → u ≡ same_range r q
   unfolding same_range cmp_range
   same_starts {p} w g h = h ∙ rw (← g, ← e) (first_equal o p (sym f ∙ w))
 

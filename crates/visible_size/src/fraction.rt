@@ -40,8 +40,8 @@ fn same_range(s: &[u8], r: RangeSpan, q: RangeSpan) -> bool
     requires fact_4 { BoundInside s.now q.end }
     ensures { result ≡ same_range (range_in s.now r.start r.end) (range_in s.now q.start q.end) }
 {
-    key::is_equal(format::span::compare(s, r.start, s, q.start, true))
-        && key::is_equal(format::span::compare(s, r.end, s, q.end, false))
+    format::span::compare(s, r.start, s, q.start, true).is_eq()
+        && format::span::compare(s, r.end, s, q.end, false).is_eq()
 }
 
 // Of a table's own range and a view's effective range.
