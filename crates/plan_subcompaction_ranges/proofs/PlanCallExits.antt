@@ -1,7 +1,6 @@
--- The exits of `plan_judged` and `plan_subcompaction_ranges`.
+-- The exits of `plan_subcompaction_ranges`.
 -- Assumes nothing.
 use Prim.Native.Nat.{ℕ, ◌<◌, ◌≤◌}
-use native.Mathlib.Omega.{arith}
 use mathlib.Core.Path.{◌≡◌, sym, ap, ◌∙◌}
 use mathlib.Core.List.{List}
 use lib.ListN.{length}
@@ -12,25 +11,15 @@ use Rattle.format.specs.Whole.{whole}
 use Rattle.records.specs.Form.{read_many}
 use Rattle.records.specs.Found.{values_of}
 use Rattle.records.specs.Layouts.{image, index}
-use Rattle.manifest.specs.Checks.{all, image_checks}
+use Rattle.manifest.specs.Checks.{image_checks}
 use Rattle.manifest.specs.Faults.{fault_of}
 use Rattle.manifest.specs.Spans.{judged_whole, JudgedWhole}
 use Rattle.manifest.specs.declared.images.Judged.{Judged}
 use Rattle.manifest.specs.declared.images.Judged.TheVariants.{At as JudgedAt, Stop as JudgedStop}
 use Rattle.manifest.proofs.Given.{numbered, stopped_is, whole_read}
 use Rattle.subcompaction.specs.PlanCalls.{views, ranges_planned, plan_subcompaction_ranges_outcome}
-use Rattle.plan_subcompaction_ranges.specs.Walks.{ImageJudged, RowsEnough}
+use Rattle.plan_subcompaction_ranges.specs.Walks.{ImageJudged}
 use Rattle.plan_subcompaction_ranges.proofs.PlannerExits.{given, plan_after, written}
-
--- ---- plan_judged
--- a block takes at least 10 bytes
-pub short_tables : (m keys : List ℕ) → length m ≤ 640 → length keys ≡ 64 → RowsEnough m keys
-short_tables m keys h e = record { room = λ n a b. omega arith }
-
-pub long_tables : (m keys : List ℕ) → length keys ≡ 4096 → RowsEnough m keys
-long_tables m keys e = record { room = λ n a b. omega arith }
-
-pub ruleset table_exits = (short_tables, long_tables)
 
 -- ---- plan_subcompaction_ranges
 module _ (parts : ℕ) (s m d : List ℕ) where

@@ -1,6 +1,6 @@
 -- The exits of `stop_after` and `plan_sampled`: the outcome, step by step as the code goes.
 -- Assumes nothing.
-use Prim.Native.Nat.{ℕ, ◌+◌, ◌^◌, ◌<◌, ◌≤◌}
+use Prim.Native.Nat.{ℕ, ◌+◌, ◌/◌, ◌^◌, ◌<◌, ◌≤◌, min}
 use native.Mathlib.Omega.{arith}
 use native.Mathlib.Nat.{min-eq_left}
 use mathlib.Core.Path.{◌≡◌, refl, sym, ap, ap₂, ◌∙◌}
@@ -32,7 +32,7 @@ use Rattle.plan_subcompaction_ranges.specs.Walks.{indexes_read, indexes_of, larg
 use Rattle.plan_subcompaction_ranges.specs.declared.SoFar.{SoFar}
 use Rattle.plan_subcompaction_ranges.specs.declared.Walked.{Walked}
 use Rattle.plan_subcompaction_ranges.specs.declared.Walked.TheVariants.{All, Stop}
-use Rattle.plan_subcompaction_ranges.proofs.ViewsSampled.{least_tests, below_limit}
+use Rattle.plan_subcompaction_ranges.proofs.ViewsSampled.{least_tests, below_limit, min_least}
 
 -- ---- raw sizes that all pass check 7
 all_append : {A : Type 0} (p : A → Bool) (s t : List A) → all p (s ++ t) ≡ (all p s && all p t)
@@ -88,10 +88,12 @@ module _ (fault : ℕ) (w : SoFar) (len : ℕ) where
   unfolding stop_after
   left_over h = rw (lt-ltb w.at len h)
 
-  module _ {a b c : ℕ} (h : len ≤ w.at) (ha : a ≡ fault_of (total_fits w.kept.total)) (hb : b ≡ least w.fault a) (hc : c ≡ least fault b) where
+  module _ {a b c : ℕ} (h : len ≤ w.at) (ha : a ≡ fault_of (total_fits w.kept.total)) (hb : b ≡ min fault w.fault) (hc : c ≡ min b a) where
     first_is : c ≡ first_fault fault w
     unfolding first_fault
-    first_is = hc ∙ ap (least fault) (hb ∙ ap (least w.fault) ha)
+    first_is =
+        let x : c ≡ min fault (min w.fault (fault_of (total_fits w.kept.total))) = omega arith in
+        x ∙ min_least fault _ ∙ ap (least fault) (min_least w.fault _)
 
     pub first_fails : c < 8 → c ≡ stop_after fault w len
     unfolding stop_after
@@ -294,6 +296,10 @@ module _ (parts : ℕ) {fault : ℕ} (s m d : List ℕ) (hp : parts ≤ 64) (hi 
               → f ≡ lent d (written_to (length d) (plan.write (select_boundaries parts w.largest (anchors_in m keys bytes w.kept.rows))))
               → f ≡ lent d (plan_subcompaction_ranges_outcome parts s m (length d))
           planned_written e = e ∙ sym (ap (lent d) plan_is)
+
+-- a block takes at least 10 bytes
+pub rows_enough : (m keys : List ℕ) {n : ℕ} → min 4096 (length m / 10) ≤ n → length keys ≡ n → RowsEnough m keys
+rows_enough m keys h e = record { room = λ k a b. omega arith }
 
 pub image_there : {s : List ℕ} {fault : ℕ} → ImageJudged s fault → T (is_got (image.read s))
 image_there h = h.there

@@ -1,15 +1,16 @@
 -- What one more view adds to what was sampled: its index image after the others, its anchors after the others.
 -- Assumes nothing.
-use Prim.Native.Nat.{ℕ, zero, suc, ◌+◌, ◌<◌, ◌≤◌, max}
+use Prim.Native.Nat.{ℕ, zero, suc, ◌+◌, ◌<◌, max, min}
 use native.Mathlib.Omega.{arith}
 use native.Mathlib.Nat.{zero-add, suc-add}
-use native.Mathlib.Nat.{max_comm, max-eq_left, max-eq_right}
+use native.Mathlib.Nat.{max_comm}
 use mathlib.Core.Path.{◌≡◌, refl, sym, ap, ◌∙◌}
 use mathlib.Core.Bool.{Bool, true, false}
 use mathlib.Core.List.{List, [], ◌∷◌, ◌++◌, append_assoc, append-nil}
 use lib.ListN.{length, length-append}
-use lib.Dec.{ltb, leb}
-use borrow.Author.Tests.{le-ltb, leb-true, leb-false}
+use lib.Dec.{ltb}
+use Rattle.base.specs.Pick.{pick}
+use borrow.Author.Tests.{le-ltb, ltb-true, ltb-false}
 use Rattle.format.specs.Got.{Got, got, stop, and_then}
 use Rattle.records.specs.Form.{read_many}
 use Rattle.records.specs.Values.{View, Index}
@@ -80,26 +81,7 @@ module _ (limit t : ℕ) where
 
 -- ---- the largest size
 max_assoc : (a b c : ℕ) → max a (max b c) ≡ max (max a b) c
-max_assoc a b c = go (leb a b) (leb b c) refl refl
-  where
-    go : (t u : Bool) → leb a b ≡ t → leb b c ≡ u → max a (max b c) ≡ max (max a b) c
-    go true true e f =
-        let h = leb-true a b e in
-        let k = leb-true b c f in
-        let l : a ≤ c = omega arith in
-        rw (max-eq_right {n = b} {m = c} k, max-eq_right {n = a} {m = b} h, max-eq_right {n = a} {m = c} l, max-eq_right {n = b} {m = c} k)
-    go true false e f =
-        let h = leb-true a b e in
-        let k : c ≤ b = omega (arith, leb-false b c f) in
-        rw (max-eq_left {n = b} {m = c} k, max-eq_right {n = a} {m = b} h, max-eq_left {n = b} {m = c} k)
-    go false true e f =
-        let h : b ≤ a = omega (arith, leb-false a b e) in
-        rw (max-eq_right {n = b} {m = c} (leb-true b c f), max-eq_left {n = a} {m = b} h)
-    go false false e f =
-        let h : b ≤ a = omega (arith, leb-false a b e) in
-        let k : c ≤ b = omega (arith, leb-false b c f) in
-        let l : c ≤ a = omega arith in
-        rw (max-eq_left {n = b} {m = c} k, max-eq_left {n = a} {m = b} h, max-eq_left {n = a} {m = c} l)
+max_assoc a b c = omega arith
 
 pub largest_more :
     (vs : List View) (v : View)
@@ -118,3 +100,11 @@ pub order_more :
     ≡ fault_of (ordered (all (λ y. (index_checks y).order) (xs ++ (x ∷ []))))
 unfolding index_checks
 order_more xs x = rw (all_more (λ y. (index_checks y).order) xs x) (least_joined (ordered (all (λ y. (index_checks y).order) xs)) (index_checks x))
+
+pub min_least : (a b : ℕ) → min a b ≡ least a b
+unfolding least
+min_least a b = go (ltb a b) refl
+  where
+    go : (t : Bool) → ltb a b ≡ t → min a b ≡ pick t a b
+    go true e = omega (arith, ltb-true a b e)
+    go false e = omega (arith, ltb-false a b e)

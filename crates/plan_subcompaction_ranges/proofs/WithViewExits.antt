@@ -1,6 +1,6 @@
 -- The exits of `raw_size`, `total_fault` and `with_view`.
 -- Assumes nothing.
-use Prim.Native.Nat.{ℕ, ◌+◌, ◌*◌, ◌^◌, ◌<◌, ◌≤◌, max}
+use Prim.Native.Nat.{ℕ, ◌+◌, ◌*◌, ◌^◌, ◌<◌, ◌≤◌, max, min}
 use native.Mathlib.Omega.{arith}
 use mathlib.Core.Path.{◌≡◌, sym, ap, ap₂, subst, ◌∙◌}
 use mathlib.Core.Bool.{Bool, true, false}
@@ -35,7 +35,7 @@ use Rattle.sampled.specs.declared.Kept.{Kept}
 use Rattle.sampled.proofs.SampleSizes.{index_is_long}
 use Rattle.subcompaction.proofs.Samples.{no_more_than_blocks}
 use Rattle.manifest.proofs.AnchorExits.{total_append, least_most, least_added}
-use Rattle.plan_subcompaction_ranges.proofs.ViewsSampled.{indexes_more, sampled_more, largest_more, order_more}
+use Rattle.plan_subcompaction_ranges.proofs.ViewsSampled.{indexes_more, sampled_more, largest_more, order_more, min_least}
 
 -- ---- raw_size
 module _ (offset len : ℕ) {t : Bool} (e : t ≡ size_fits offset len) where
@@ -157,7 +157,7 @@ module _ {s m keys bytes : List ℕ} {w : SoFar} {v : ViewSpan} {r : RangeSpan} 
       {keys' bytes' : List ℕ} {kept : Kept} {worst raw large : ℕ}
       → ((as' : Anchors) → Held m keys bytes w.kept.rows as' → Held m keys' bytes' kept.rows (as' ++ sample_anchors 128 v.table.filter_offset (index_there m w.at) (range_in s r.start r.end)))
       → kept.total ≡ least (w.kept.total + total (sample_anchors 128 v.table.filter_offset (index_there m w.at) (range_in s r.start r.end))) (2 ^ 63)
-      → worst ≡ least w.fault fault
+      → worst ≡ min w.fault fault
       → raw ≡ passing_size v.table.index_offset v.table.index_len
       → large ≡ max w.largest raw
       → WithView m keys bytes w (view_in s v) keys' bytes' (record { at = next; fault = worst; kept = kept; largest = large })
@@ -165,7 +165,7 @@ module _ {s m keys bytes : List ℕ} {w : SoFar} {v : ViewSpan} {r : RangeSpan} 
       record {
         after = λ before p.
             one_more p j (view_in s v) (λ as' x. subst (λ a. Held m keys' bytes' kept.rows (as' ++ a)) (same_anchors j e) (h as' x))
-            (t ∙ ap (λ a. least (w.kept.total + total a) (2 ^ 63)) (same_anchors j e)) f (l ∙ ap (max w.largest) q);
+            (t ∙ ap (λ a. least (w.kept.total + total a) (2 ^ 63)) (same_anchors j e)) (f ∙ min_least w.fault fault) (l ∙ ap (max w.largest) q);
       }
 
 pub ruleset view_exits = (tables_wide, rows_few, total_most, range_start, range_end, index_there_lem, view_added)

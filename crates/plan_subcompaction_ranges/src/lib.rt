@@ -2,7 +2,7 @@
 // buffer, give the ranges of its compaction.
 #![tactic(auto)]
 
-ghost use Rattle.std.specs.Prelude.{◌≡◌, ◌≤◌, max, T, length};
+ghost use Rattle.std.specs.Prelude.{◌≡◌, ◌≤◌, ◌/◌, min, T, length};
 ghost use Rattle.base.specs.Outcome.{lent, reported};
 ghost use Rattle.records.specs.Found.{is_got, values_of};
 ghost use Rattle.records.specs.Layouts.{image};
@@ -10,11 +10,11 @@ ghost use Rattle.records.specs.Spans.{ViewInside, view_in};
 ghost use Rattle.manifest.specs.Faults.{fault_of};
 ghost use Rattle.subcompaction.specs.PlanCalls.{views, plan_subcompaction_ranges_outcome};
 ghost use Rattle.plan_subcompaction_ranges.specs.Walks.{RunViews, run_views, IndexNext, SampledSome, WithView, SampledMore, ViewsPast, SampledAll};
-ghost use Rattle.plan_subcompaction_ranges.specs.Walks.{ImageJudged, RowsEnough, passing_size, total_fits, stop_after};
+ghost use Rattle.plan_subcompaction_ranges.specs.Walks.{ImageJudged, passing_size, total_fits, stop_after};
 
 use base::Written;
-use manifest::{Judged, lesser, size_passes};
-use planned::{Asked, planned_few, planned_many};
+use manifest::{Judged, size_passes};
+use planned::{Asked, planned};
 use records::{RunSpan, ViewSpan};
 use sampled::{Kept, Sampling, sample};
 
@@ -42,24 +42,20 @@ pub enum RunWalked {
     Stop(u8),
 }
 
-// The greater of two numbers.
-fn greater(a: u64, b: u64) -> u64
-    ensures { result ≡ max a b }
-{
-    if a < b { b } else { a }
-}
-
 // A table's raw size; 0 where check 7 refuses it, so that the sum does not wrap.
+#[tactic(auto, using(crate::proofs::WithViewExits::raw_exits))]
 fn raw_size(offset: u64, len: u64) -> u64
     ensures { result ≡ passing_size offset len }
 {
     if size_passes(offset, len) {
-        return offset + len;
+        offset + len
+    } else {
+        0
     }
-    0
 }
 
 // One more view, whose index image was read: it ends at next, and fault is the check that it fails.
+#[tactic(auto, using(crate::proofs::WithViewExits::view_exits))]
 fn with_view(
     image: &[u8],
     v: ViewSpan,
@@ -82,17 +78,17 @@ fn with_view(
         data_end: t.filter_offset,
     };
     let range = manifest::effective(image, v);
-    let before = w.kept;
-    let kept = sample(indexes, ask, image, range, keys, bytes, before);
+    let kept = sample(indexes, ask, image, range, keys, bytes, w.kept);
     SoFar {
         at: next,
-        fault: lesser(w.fault, fault),
+        fault: w.fault.min(fault),
         kept,
-        largest: greater(w.largest, raw_size(t.index_offset, t.index_len)),
+        largest: w.largest.max(raw_size(t.index_offset, t.index_len)),
     }
 }
 
 // The views of one more run: each has its index image where the one before ended.
+#[tactic(auto, using(crate::proofs::WalkExits::views_exits))]
 fn views_sampled(
     image: &[u8],
     r: RunSpan,
@@ -106,19 +102,15 @@ fn views_sampled(
     ensures sampled_more { SampledMore indexes.now keys.old bytes.old before (run_views image.now r) keys.new bytes.new result }
     ensures views_past { ViewsPast image.now r result }
 {
-    let mut seen = 0;
     let mut at = r.first;
     let mut w = before;
-    while seen < r.views {
+    for _ in 0..r.views {
         let v = records::view_there(image, at);
         match manifest::index_at(indexes, w.at) {
-            Judged::Stop(k) => {
-                return RunWalked::Stop(k);
-            }
+            Judged::Stop(k) => return RunWalked::Stop(k),
             Judged::At { next, fault } => {
                 w = with_view(image, v, indexes, next, fault, keys, bytes, w);
                 at = v.past;
-                seen += 1;
             }
         }
     }
@@ -126,6 +118,7 @@ fn views_sampled(
 }
 
 // The views of all runs of an image that is there.
+#[tactic(auto, using(crate::proofs::WalkExits::runs_exits))]
 fn runs_sampled(given: &[u8], indexes: &[u8], keys: &mut [usize], bytes: &mut [u64]) -> Walked
     requires fact_1 { T (is_got (image.read given.now)) }
     requires fact_2 { length bytes.old ≡ length keys.old }
@@ -139,18 +132,14 @@ fn runs_sampled(given: &[u8], indexes: &[u8], keys: &mut [usize], bytes: &mut [u
         kept: none,
         largest: 0,
     };
-    let mut seen = 0;
     let mut at = 1;
-    while seen < n {
+    for _ in 0..n {
         let r = records::run_there(given, at);
         match views_sampled(given, r, indexes, keys, bytes, w) {
-            RunWalked::Stop(k) => {
-                return Walked::Stop(k);
-            }
+            RunWalked::Stop(k) => return Walked::Stop(k),
             RunWalked::At(next, more) => {
                 w = more;
                 at = next;
-                seen += 1;
             }
         }
     }
@@ -158,54 +147,50 @@ fn runs_sampled(given: &[u8], indexes: &[u8], keys: &mut [usize], bytes: &mut [u
 }
 
 // Check 7 of a total: 7 once it has reached 2^63, or 8.
+#[tactic(auto, using(crate::proofs::WithViewExits::total_exits))]
 fn total_fault(total: u64) -> u8
     ensures { result ≡ fault_of (total_fits total) }
 {
-    if total < 9223372036854775808 {
-        return 8;
-    }
-    7
+    if total < 9223372036854775808 { 8 } else { 7 }
 }
 
 // The number of the stop after the walk over an index buffer of some bytes, or 8: 1 if bytes remain, then the first of the
 // checks 4 to 7, where fault is the image's, then 15.
+#[tactic(auto, using(crate::proofs::PlannerExits::stop_exits))]
 fn stop_after(fault: u8, w: SoFar, len: usize) -> u8
     ensures { result ≡ stop_after fault w len }
 {
     if w.at < len {
         return 1;
     }
-    let kept = w.kept;
-    let first = lesser(fault, lesser(w.fault, total_fault(kept.total)));
+    let first = fault.min(w.fault).min(total_fault(w.kept.total));
     if first < 8 {
         return first;
     }
-    if 4096 < kept.rows {
-        return 15;
-    }
-    8
+    if 4096 < w.kept.rows { 15 } else { 8 }
 }
 
-// The plan, after an image of which a number is the first of the checks 4 to 7 that fails, or 8. The tables have a row for
-// each anchor that may be kept.
-fn plan_sampled(
+// The plan, after an image of which a number is the first of the checks 4 to 7 that fails, or 8. A block takes at least 10 bytes, so
+// that each anchor that may be kept has a row in tables of N.
+#[tactic(auto, using(crate::proofs::PlannerExits::plan_exits))]
+fn plan_sampled<const N: usize>(
     parts: usize,
     given: &[u8],
     fault: u8,
     indexes: &[u8],
-    keys: &mut [usize],
-    bytes: &mut [u64],
     out: &mut [u8],
 ) -> Written
     requires parts_bound_1 { parts ≤ 64 }
     requires parts_bound_2 { ImageJudged given.now fault }
     requires parts_bound_3 { length indexes.now ≤ 65536 }
-    requires rows_enough_1 { RowsEnough indexes.now keys.old }
-    requires rows_enough_2 { length bytes.old ≡ length keys.old }
+    requires rows_enough_1 { min 4096 (length indexes.now / 10) ≤ N }
+    requires rows_enough_2 { N ≤ 4096 }
     ensures value { result ≡ reported (plan_subcompaction_ranges_outcome parts given.now indexes.now (length out.old)) }
     ensures out_after { out.new ≡ lent out.old (plan_subcompaction_ranges_outcome parts given.now indexes.now (length out.old)) }
 {
-    match runs_sampled(given, indexes, keys, bytes) {
+    let mut keys = [0usize; N];
+    let mut bytes = [0u64; N];
+    match runs_sampled(given, indexes, &mut keys, &mut bytes) {
         Walked::Stop(k) => Written::Stop(k),
         Walked::All(w) => {
             let k = stop_after(fault, w, indexes.len());
@@ -219,33 +204,16 @@ fn plan_sampled(
                 total: kept.total,
             };
             if kept.rows <= 64 {
-                return planned_few(indexes, keys, bytes, kept.rows, ask, out);
+                planned::<64>(indexes, &keys, &bytes, kept.rows, ask, out)
+            } else {
+                planned::<4096>(indexes, &keys, &bytes, kept.rows, ask, out)
             }
-            planned_many(indexes, keys, bytes, kept.rows, ask, out)
         }
     }
 }
 
-// The same with tables of its own. A block takes at least 10 bytes, so that 640 bytes of index images have at most 64
-// anchors, and short tables do.
-fn plan_judged(parts: usize, given: &[u8], fault: u8, indexes: &[u8], out: &mut [u8]) -> Written
-    requires fact_1 { parts ≤ 64 }
-    requires fact_2 { ImageJudged given.now fault }
-    requires fact_3 { length indexes.now ≤ 65536 }
-    ensures value { result ≡ reported (plan_subcompaction_ranges_outcome parts given.now indexes.now (length out.old)) }
-    ensures out_after { out.new ≡ lent out.old (plan_subcompaction_ranges_outcome parts given.now indexes.now (length out.old)) }
-{
-    if indexes.len() <= 640 {
-        let mut keys = [0usize; 64];
-        let mut bytes = [0u64; 64];
-        return plan_sampled(parts, given, fault, indexes, &mut keys, &mut bytes, out);
-    }
-    let mut keys = [0usize; 4096];
-    let mut bytes = [0u64; 4096];
-    plan_sampled(parts, given, fault, indexes, &mut keys, &mut bytes, out)
-}
-
 // Ranges for a number of parts, from an image and its index images.
+#[tactic(auto, using(crate::proofs::PlanCallExits::call_exits))]
 pub fn plan_subcompaction_ranges(
     parts: usize,
     image: &[u8],
@@ -260,11 +228,16 @@ pub fn plan_subcompaction_ranges(
     }
     match manifest::image_judged(image) {
         Judged::Stop(k) => Written::Stop(k),
-        Judged::At { next: _, fault } => {
+        Judged::At { fault, .. } => {
             if 65536 < indexes.len() {
                 return Written::Stop(3);
             }
-            plan_judged(parts, image, fault, indexes, out)
+            // Few bytes have few anchors, and get short tables: a small call does not pay for clearing long ones.
+            if indexes.len() <= 640 {
+                plan_sampled::<64>(parts, image, fault, indexes, out)
+            } else {
+                plan_sampled::<4096>(parts, image, fault, indexes, out)
+            }
         }
     }
 }

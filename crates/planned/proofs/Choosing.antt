@@ -72,7 +72,7 @@ some_part h = omega arith
 
 pub ruleset goal_exits = (one_part, wide_target, narrow_target, some_part)
 
--- ---- choose_few and choose_many
+-- ---- choose
 -- there is a goal where more than one range may be chosen
 pub record Splits (parts least bytes goal : ℕ) : Type 0 where
   pub is : goal ≡ target parts least bytes
@@ -137,7 +137,7 @@ total_below e l = omega arith
 
 pub ruleset choose_exits = (none_chosen, part_wanted, goal_below, some_chosen, total_below, sorted_rows, sorted_room)
 
--- ---- planned_few and planned_many
+-- ---- planned
 pub marks_few : {s marks : List ℕ} {count : ℕ} {ks : List Key} → Marked s marks count ks → count ≤ 63
 marks_few m = m.few
 

@@ -37,7 +37,7 @@ use Rattle.subcompaction.specs.Anchors.{sample_anchors}
 use Rattle.subcompaction.specs.PlanCalls.{anchors_sampled, sample_anchors_outcome}
 use Rattle.subcompaction.specs.Tables.{anchors_in, Held, HeldThen, index_there}
 use Rattle.subcompaction.proofs.Samples.{no_more_than_blocks, at_most_that_many_anchors}
-use Rattle.sampled.proofs.SampleExits.{count}
+use Rattle.sampled.proofs.SampleExits.{index_room, count}
 
 -- ---- answered
 none_held : (s keys bytes : List ℕ) → length bytes ≡ length keys → Held s keys bytes 0 []
@@ -71,7 +71,7 @@ module _ {s keys₀ bytes₀ keys bytes : List ℕ} {n : ℕ} {as' : Anchors} (f
     pub rows_there : Rows s keys n
     rows_there = rw stored at all.there
 
-    pub rows_most : length as' ≤ 4096 → n ≤ 4096
+    pub rows_most : length keys₀ ≤ 4096 → n ≤ 4096
     rows_most h = omega (arith, all.count)
 
     pub rows_sized : n ≤ length bytes
@@ -83,12 +83,14 @@ module _ {s keys₀ bytes₀ keys bytes : List ℕ} {n : ℕ} {as' : Anchors} (f
     pub rows_lent : {g : List ℕ} (d : List ℕ) → g ≡ lent d (written_to (length d) (anchors.write (anchors_in s keys bytes n))) → g ≡ lent d (written_to (length d) (anchors.write as'))
     rows_lent d e = e ∙ ap (λ l. lent d (written_to (length d) (anchors.write l))) rows_are
 
-pub ruleset answered_exits = (rows_there, rows_most, rows_sized, rows_reported, rows_lent, most_anchors)
+pub ruleset answered_exits = (rows_there, rows_most, rows_sized, rows_reported, rows_lent)
 
--- ---- sampled
+-- ---- answered_from
 pub few_anchors : (s : List ℕ) (at : ℕ) → T (is_got (index.read (drop at s))) → (most data_end : ℕ) (q : Range) {n : ℕ} → read_number 2 (drop at s) ≡ got n (drop (at + 2) s) → n ≤ 64 → length (sample_anchors most data_end (index_there s at) q) ≤ 64
 few_anchors s at t most data_end q e h =
     omega (arith, no_more_than_blocks most data_end (index_there s at) q, count s at t e)
+
+pub ruleset tables_exits = (index_room, few_anchors, most_anchors)
 
 -- ---- sample_anchors
 reports : {o : Outcome (List ℕ)} (k : ℕ) → o ≡ stop k → Stop k ≡ reported o

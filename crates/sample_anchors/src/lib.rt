@@ -18,38 +18,33 @@ use manifest::Judged;
 use put::anchors_written;
 use sampled::{Kept, Sampling, sample};
 
-// The anchors sampled, written into a buffer; the tables have a row for each.
-fn answered(
+// The anchors sampled, written into a buffer. They are at most N: the tables that they stand in on the way have a row for each.
+#[tactic(auto, using(crate::proofs::CallExits::answered_exits))]
+fn answered<const N: usize>(
     s: &[u8],
     ask: Sampling,
     within: &[u8],
     range: RangeSpan,
-    keys: &mut [usize],
-    bytes: &mut [u64],
     out: &mut [u8],
 ) -> Written
     requires t_1 { T (is_got (index.read (drop ask.at s.now))) }
     requires t_2 { BoundInside within.now range.start }
     requires t_3 { BoundInside within.now range.end }
     requires most_bound { ask.most ≤ 4096 }
-    requires bytes_len_1 { length bytes.old ≡ length keys.old }
-    requires bytes_len_2 { length (sampled_there s.now ask within.now range) ≤ length keys.old }
+    requires rows_1 { length (sampled_there s.now ask within.now range) ≤ N }
+    requires rows_2 { N ≤ 4096 }
     ensures value { result ≡ reported (written_to (length out.old) (anchors.write (sampled_there s.now ask within.now range))) }
     ensures out_after { out.new ≡ lent out.old (written_to (length out.old) (anchors.write (sampled_there s.now ask within.now range))) }
 {
-    let kept = sample(
-        s,
-        ask,
-        within,
-        range,
-        keys,
-        bytes,
-        Kept { rows: 0, total: 0 },
-    );
-    anchors_written(s, keys, bytes, kept.rows, out)
+    let mut keys = [0usize; N];
+    let mut bytes = [0u64; N];
+    let none = Kept { rows: 0, total: 0 };
+    let kept = sample(s, ask, within, range, &mut keys, &mut bytes, none);
+    anchors_written(s, &keys, &bytes, kept.rows, out)
 }
 
-// The same with tables of its own: small ones for a short index, since clearing them takes time.
+// The same: of a short index with small tables, since clearing them takes time.
+#[tactic(auto, using(crate::proofs::CallExits::tables_exits))]
 fn answered_from(
     s: &[u8],
     ask: Sampling,
@@ -65,16 +60,14 @@ fn answered_from(
     ensures out_after { out.new ≡ lent out.old (written_to (length out.old) (anchors.write (sampled_there s.now ask within.now range))) }
 {
     if format::number_there(s, ask.at, 2) <= 64 {
-        let mut keys = [0usize; 64];
-        let mut bytes = [0u64; 64];
-        return answered(s, ask, within, range, &mut keys, &mut bytes, out);
+        answered::<64>(s, ask, within, range, out)
+    } else {
+        answered::<4096>(s, ask, within, range, out)
     }
-    let mut keys = [0usize; 4096];
-    let mut bytes = [0u64; 4096];
-    answered(s, ask, within, range, &mut keys, &mut bytes, out)
 }
 
 // At most so many anchors of a table, by its index and where its data end: those whose key a range holds.
+#[tactic(auto, using(crate::proofs::CallExits::call_exits))]
 pub fn sample_anchors(
     most: usize,
     data_end: u64,
@@ -97,18 +90,18 @@ pub fn sample_anchors(
                 end,
                 next: _,
             } => {
-                if span::passes(range, start, range, end) {
-                    if fault < 8 {
-                        return Written::Stop(6);
-                    }
-                    let ask = Sampling {
-                        at: 0,
-                        most,
-                        data_end,
-                    };
-                    return answered_from(index, ask, range, RangeSpan { start, end }, out);
+                if !span::passes(range, start, range, end) {
+                    return Written::Stop(4);
                 }
-                Written::Stop(4)
+                if fault < 8 {
+                    return Written::Stop(6);
+                }
+                let ask = Sampling {
+                    at: 0,
+                    most,
+                    data_end,
+                };
+                answered_from(index, ask, range, RangeSpan { start, end }, out)
             }
         },
     }

@@ -14,22 +14,21 @@ use base::Written;
 use key_rows::{key_part, put_key};
 
 // How long the anchors of n rows are: a count, and for each row its key's field and eight bytes.
+#[tactic(auto, using(crate::proofs::PutExits::len_exits))]
 fn anchors_len(s: &[u8], keys: &[usize], n: usize) -> usize
     requires fact_1 { Rows s.now keys.now n }
     requires fact_2 { n ≤ 4096 }
     ensures { result ≡ 2 + fields_in s.now keys.now n }
 {
     let mut len = 2;
-    let mut row = 0;
-    while row < n {
-        let key = key_part(s, keys[row]);
-        len += key.len() + 10;
-        row += 1;
+    for row in 0..n {
+        len += key_part(s, keys[row]).len() + 10;
     }
     len
 }
 
 // The anchor whose key stands at a place. Answers the place past what was put.
+#[tactic(auto, using(crate::proofs::PutExits::put_anchor_exits))]
 fn put_anchor(s: &[u8], at: usize, size: u64, out: &mut [u8], to: usize) -> usize
     requires fact_1 { T (is_got (read_key (drop at s.now))) }
     requires fact_2 { to + length (anchor.write (record { key = key_there s.now at; bytes = size })) ≤ length out.old }
@@ -42,6 +41,7 @@ fn put_anchor(s: &[u8], at: usize, size: u64, out: &mut [u8], to: usize) -> usiz
 }
 
 // The anchors of n rows, without their count.
+#[tactic(auto, using(crate::proofs::PutExits::put_rows_exits))]
 fn put_rows(s: &[u8], keys: &[usize], bytes: &[u64], n: usize, out: &mut [u8], first: usize)
     requires rows_1 { Rows s.now keys.now n }
     requires rows_2 { n ≤ length bytes.now }
@@ -49,14 +49,13 @@ fn put_rows(s: &[u8], keys: &[usize], bytes: &[u64], n: usize, out: &mut [u8], f
     ensures { out.new ≡ splice out.old first (write_many anchor.write (anchors_in s.now keys.now bytes.now n)) }
 {
     let mut to = first;
-    let mut row = 0;
-    while row < n {
+    for row in 0..n {
         to = put_anchor(s, keys[row], bytes[row], out, to);
-        row += 1;
     }
 }
 
 // The anchors of n rows, at the front of a buffer. The caller has measured: they fit.
+#[tactic(auto, using(crate::proofs::PutExits::put_anchors_exits))]
 fn put_anchors(s: &[u8], keys: &[usize], bytes: &[u64], n: usize, out: &mut [u8])
     requires rows_1 { Rows s.now keys.now n }
     requires rows_2 { n ≤ length bytes.now }
@@ -68,6 +67,7 @@ fn put_anchors(s: &[u8], keys: &[usize], bytes: &[u64], n: usize, out: &mut [u8]
 }
 
 // The anchors of n rows, written into a buffer if it has room for them.
+#[tactic(auto, using(crate::proofs::PutExits::written_rows_exits))]
 pub fn anchors_written(s: &[u8], keys: &[usize], bytes: &[u64], n: usize, out: &mut [u8]) -> Written
     requires fact_1 { Rows s.now keys.now n }
     requires fact_2 { n ≤ length bytes.now }

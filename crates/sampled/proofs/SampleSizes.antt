@@ -2,7 +2,7 @@
 -- Assumes nothing.
 use Prim.Native.Nat.{ℕ, zero, suc, ◌+◌, ◌*◌, ◌-◌, ◌<◌, ◌≤◌}
 use native.Mathlib.Omega.{arith}
-use mathlib.Core.Path.{◌≡◌, refl, ap}
+use mathlib.Core.Path.{◌≡◌, refl, sym, ap, ◌∙◌}
 use mathlib.Core.List.{List, [], ◌∷◌}
 use lib.ListN.{length, drop, length-drop}
 use lib.Dec.{leb}
@@ -13,7 +13,9 @@ use Rattle.format.specs.Key.{read_key, read_bytes}
 use Rattle.format.proofs.Layouts.{came, passed}
 use Rattle.records.specs.Form.{number, key, seq, read_many}
 use Rattle.records.specs.Values.{Block, Index}
-use Rattle.records.specs.Layouts.{block}
+use Rattle.records.specs.Layouts.{block, index}
+use Rattle.records.proofs.Forms.{read_many_length}
+use Rattle.records.proofs.BlockExits.{index_is}
 use Rattle.subcompaction.specs.Anchors.{beginning, groups}
 
 -- ---- group by group
@@ -88,4 +90,14 @@ blocks_are_long (suc n) l x r e =
       block_is_long l c.value c.rest c.first,
       blocks_are_long n c.rest d.value d.rest d.first,
       ap length z,
+    )
+
+pub index_is_long : (l : List ℕ) (x : Index) (r : List ℕ) → index.read l ≡ got x r → length x * 10 + 2 + length r ≤ length l
+index_is_long l x r e =
+    let c = came (read_number 2 l) _ x r (sym (index_is l) ∙ e) in
+    omega (
+      arith,
+      number_takes 2 l c.value c.rest c.first,
+      blocks_are_long c.value c.rest x r c.second,
+      read_many_length block.read c.value c.rest x r c.second,
     )

@@ -1,23 +1,31 @@
 -- `sample_anchors::answered` meets its contract.
 -- Assumes nothing.
-use Rattle.sample_anchors.proofs.CallExits.{rows_there, rows_sized, rows_most, most_anchors, answered_exits}
-use borrow.Author.Rules.{rules}
+use mathlib.Core.Path.{refl}
+use Rattle.std.proofs.Math.ListN.{length-replicate}
+use Rattle.sample_anchors.proofs.CallExits.{rows_there, rows_most, rows_sized, rows_reported, rows_lent}
 use Rattle.sample_anchors.proofs.answered.Goals as goal
 
-pub sample-kept-requires : goal.sample-kept-requires
-sample-kept-requires c = record { t_1 = search rules; t_2 = search rules; t_3 = search rules; bytes_len_1 = search rules; bytes_len_2 = search rules; bytes_len_3 = search rules; bytes_len_4 = search rules }
+pub anchors_written-requires-clause-fact_1 : goal.anchors_written-requires-clause-fact_1
+anchors_written-requires-clause-fact_1 g c =
+    let e = c.sample-kept.ensures in
+    rows_there e.held_then refl e.keys_len_unchanged (rw length-replicate c.requires.rows_1)
 
-pub anchors_written-requires : goal.anchors_written-requires
-anchors_written-requires c = record { fact_1 = search (rules, rows_there); fact_2 = search (rules, rows_sized); fact_3 = search (rules, rows_most, most_anchors) }
+pub anchors_written-requires-clause-fact_2 : goal.anchors_written-requires-clause-fact_2
+anchors_written-requires-clause-fact_2 g c =
+    let e = c.sample-kept.ensures in
+    rows_sized e.held_then refl e.keys_len_unchanged (rw length-replicate c.requires.rows_1)
 
-pub shape_of-keys : goal.shape_of-keys
-shape_of-keys c = search (rules, answered_exits)
+pub anchors_written-requires-clause-fact_3 : goal.anchors_written-requires-clause-fact_3
+anchors_written-requires-clause-fact_3 g c =
+    let e = c.sample-kept.ensures in
+    rows_most e.held_then refl e.keys_len_unchanged (rw length-replicate c.requires.rows_1) (rw length-replicate c.requires.rows_2)
 
-pub shape_of-bytes : goal.shape_of-bytes
-shape_of-bytes c = search (rules, answered_exits)
+pub returns-clause-value : goal.returns-clause-value
+returns-clause-value g c =
+    let e = c.sample-kept.ensures in
+    rows_reported e.held_then refl e.keys_len_unchanged (rw length-replicate c.requires.rows_1) _ c.anchors_written.ensures.value
 
-pub shape_of-out : goal.shape_of-out
-shape_of-out c = search (rules, answered_exits)
-
-pub returns : goal.returns
-returns c = search (rules, answered_exits)
+pub returns-clause-out_after : goal.returns-clause-out_after
+returns-clause-out_after g c =
+    let e = c.sample-kept.ensures in
+    rows_lent e.held_then refl e.keys_len_unchanged (rw length-replicate c.requires.rows_1) _ c.anchors_written.ensures.out_after
