@@ -23,33 +23,28 @@ use Rattle.incremental_progress.specs.Parts.{key_of, is_key, up_to_key}
 use Rattle.commit_durable.specs.Answers.{last_in, LastInside, with_kind, RowMade}
 use Rattle.commit_durable.specs.declared.outputs.Outputs.{Outputs}
 
--- ---- with_kind
-module _ (b : BoundSpan) (k : Kind) {t : Bool} (h : t ≡ is_keyed b.kind) where
-  pub kind_set : t ≡ true → record { kind = k; at = b.at; len = b.len } ≡ with_kind k b
-  kind_set e = rw (← h, e)
-
-  pub kind_stays : t ≡ false → b ≡ with_kind k b
-  kind_stays e = rw (← h, e)
-
-pub ruleset kind_exits = (kind_set, kind_stays)
-
 -- ---- is_key
-pub key_is :
-    (s : List ℕ) (b k : BoundSpan) {x y : Key} {o : Ordering} {u t r : Bool}
-    → x ≡ take b.len (drop b.at s)
-    → y ≡ take k.len (drop k.at s)
-    → o ≡ cmp_key x y
-    → u ≡ is_equal o
-    → t ≡ is_keyed b.kind
-    → r ≡ (t && u)
-    → r ≡ is_key (key_of (bound_in s b)) (take k.len (drop k.at s))
+key_by : (k : Kind) (x y : Key) → (is_keyed k && is_equal (cmp_key x y)) ≡ is_key (key_of (bound_of k x)) y
 unfolding is_key
-key_is s b k ex ey eo eu et er = er ∙ rw (et, eu, eo, ex, ey) (go b.kind (take b.len (drop b.at s)) (take k.len (drop k.at s)))
-  where
-    go : (k : Kind) (x y : Key) → (is_keyed k && is_equal (cmp_key x y)) ≡ is_key (key_of (bound_of k x)) y
-    go Unbounded x y = refl
-    go Included x y = refl
-    go Excluded x y = refl
+key_by Unbounded x y = refl
+key_by Included x y = refl
+key_by Excluded x y = refl
+
+module _ (s : List ℕ) (b k : BoundSpan) {t : Bool} (et : t ≡ is_keyed b.kind) where
+  pub no_key : t ≡ false → t ≡ is_key (key_of (bound_in s b)) (take k.len (drop k.at s))
+  no_key e = rw (← key_by b.kind (take b.len (drop b.at s)) (take k.len (drop k.at s)), ← et, e)
+
+  pub key_is :
+      {x y : Key} {o : Order} {u : Bool}
+      → t ≡ true
+      → x ≡ take b.len (drop b.at s)
+      → y ≡ take k.len (drop k.at s)
+      → o ≡ cmp_key x y
+      → u ≡ is_equal o
+      → u ≡ is_key (key_of (bound_in s b)) (take k.len (drop k.at s))
+  key_is e ex ey eo eu = eu ∙ rw (eo, ex, ey, ← key_by b.kind (take b.len (drop b.at s)) (take k.len (drop k.at s)), ← et, e)
+
+pub ruleset key_exits = (no_key, key_is)
 
 -- ---- row_of
 -- a bound as a start or an end of an interval
@@ -110,7 +105,7 @@ module _ (s : List ℕ) (r : RangeSpan) (m f : ℕ) (o : Outputs) {i : BoundSpan
         first_is = refl;
       }
 
-  pub up_to_last :
+  up_to_last :
       {c t u : Bool}
       → c ≡ false
       → LastInside s o
@@ -129,4 +124,16 @@ module _ (s : List ℕ) (r : RangeSpan) (m f : ℕ) (o : Outputs) {i : BoundSpan
         first_is = refl;
       }
 
-pub ruleset row_exits = (all_durable, up_to_last)
+  -- whether a key was written decides first
+  module _ {c : Bool} (e : c ≡ false) (hl : LastInside s o) where
+    pub none_written : o.there ≡ false → RowMade s r c m f (last_in s o) (record { durable = o.there; completed = c; outputs = m; first = f; start = i; end = record { kind = Excluded; at = o.at; len = o.len } })
+    none_written w = up_to_last e hl refl (rw w)
+
+    pub some_written :
+        {t : Bool}
+        → o.there ≡ true
+        → t ≡ is_key (key_of (bound_in s r.start)) (take o.len (drop o.at s))
+        → RowMade s r c m f (last_in s o) (record { durable = not t; completed = c; outputs = m; first = f; start = i; end = record { kind = Excluded; at = o.at; len = o.len } })
+    some_written w ht = up_to_last e hl ht (rw w)
+
+pub ruleset row_exits = (all_durable, none_written, some_written)

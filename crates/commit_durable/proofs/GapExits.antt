@@ -1,88 +1,31 @@
--- The exits of the functions that make a gap; and what the loop over a table of parts keeps: the gaps made, and where the next
--- one starts.
+-- What the loop over a table of parts keeps: the gaps made, and where the next one starts.
 -- Assumes nothing.
 use Prim.Native.Nat.{ℕ, ◌+◌, ◌*◌, ◌≤◌, ◌<◌}
 use native.Mathlib.Omega.{arith}
 use mathlib.Core.Path.{◌≡◌, refl, sym, ap, ◌∙◌}
-use mathlib.Core.Bool.{Bool, true, false, ◌&&◌}
+use mathlib.Core.Bool.{true, false}
 use mathlib.Core.Option.{Option}
 use mathlib.Core.List.{List, [], ◌∷◌, ◌++◌, flat_map, append_assoc}
-use lib.ListN.{length, take, drop, length-append, drop_of_length-le}
-use Rattle.base.specs.Pick.{pick}
+use lib.ListN.{length, drop, length-append, drop_of_length-le}
 use Rattle.base.specs.Rows.{RowsHold, hold_none, hold_more}
 use Rattle.base.specs.Splice.{splice, spliced_length}
-use Rattle.key.specs.Order.{Key}
-use Rattle.comparable_range.specs.Range.{Bound, Range, bound_of}
-use Rattle.comparable_range.specs.Factors.{is_keyed}
-use Rattle.comparable_range.specs.declared.Kind.{Kind}
-use Rattle.comparable_range.specs.declared.Kind.TheVariants.{Unbounded, Included, Excluded}
-use Rattle.format.specs.Range.{bound_in, BoundInside}
+use Rattle.comparable_range.specs.Range.{Bound, Range}
+use Rattle.comparable_range.specs.declared.Kind.TheVariants.{Unbounded}
+use Rattle.format.specs.Range.{bound_in}
 use Rattle.format.specs.declared.range.BoundSpan.{BoundSpan}
 use Rattle.format.specs.declared.span.RangeSpan.{RangeSpan}
-use Rattle.records.specs.Spans.{if_so}
 use Rattle.incremental_progress.specs.Intervals.{listed}
-use Rattle.incremental_progress.specs.Parts.{key_of, durable, intervals}
-use Rattle.incremental_progress.specs.Gaps.{void, gap_to, last_gap, gap_from, gaps_from, gaps}
+use Rattle.incremental_progress.specs.Parts.{key_of, intervals}
+use Rattle.incremental_progress.specs.Gaps.{gap_to, last_gap, gap_from, gaps_from, gaps}
 use Rattle.commit_rows.specs.Numbers.{gap_numbers}
 use Rattle.commit_rows.specs.declared.parts.PartSpan.{PartSpan}
 use Rattle.commit_rows.proofs.RowExits.{gap_back}
 use Rattle.commit_durable.specs.Tables.{job_of, job_gaps, durable_in, PartsHold, PartFound, GapHeld, GapIs}
-use Rattle.commit_durable.specs.Answers.{with_kind, start_in, StartInside, StartFound, GapsMade}
+use Rattle.commit_durable.specs.Answers.{start_in, StartInside, StartFound, GapsMade}
 use Rattle.commit_durable.specs.declared.gaps.GapStart.{GapStart}
 
 abbrev open_span : BoundSpan
 open_span = record { kind = Unbounded; at = 0; len = 0 }
-
--- ---- gap_to
-module _ (s : List ℕ) (g : GapStart) (b : BoundSpan) {t u : Bool} (h : t ≡ is_keyed b.kind) (f : u ≡ (g.there && t)) where
-  to_by : gap_to (start_in s g) (key_of (bound_in s b)) ≡ pick u (record { start = bound_in s g.bound; end = bound_in s (with_kind Excluded b) }) void
-  to_by = rw (f, h) (go g.there (bound_in s g.bound) b.kind (take b.len (drop b.at s)))
-    where
-      go :
-          (w : Bool) (a : Bound) (k : Kind) (x : Key)
-          → gap_to (if_so w a) (key_of (bound_of k x)) ≡ pick (w && is_keyed k) (record { start = a; end = bound_of (pick (is_keyed k) Excluded k) x }) void
-      go false a k x = refl
-      go true a Unbounded x = refl
-      go true a Included x = refl
-      go true a Excluded x = refl
-
-  pub no_gap : {r : RangeSpan} → u ≡ false → GapHeld s void r → GapHeld s (gap_to (start_in s g) (key_of (bound_in s b))) r
-  no_gap e y = rw (to_by, e) y
-
-  pub gap_there :
-      {j : BoundSpan}
-      → u ≡ true
-      → StartInside s g
-      → BoundInside s b
-      → j ≡ with_kind Excluded b
-      → GapHeld s (gap_to (start_in s g) (key_of (bound_in s b))) (record { start = g.bound; end = j })
-  gap_there e hg hb y = rw y (record { is = rw (to_by, e); start = hg; end = hb })
-
-pub ruleset to_exits = (no_gap, gap_there)
-
--- ---- last_gap
-module _ (s : List ℕ) (g : GapStart) where
-  pub none_last : {r : RangeSpan} → g.there ≡ false → GapHeld s void r → GapHeld s (last_gap (start_in s g)) r
-  none_last e f = rw e f
-
-  pub to_the_end : g.there ≡ true → StartInside s g → GapHeld s (last_gap (start_in s g)) (record { start = g.bound; end = open_span })
-  to_the_end e h = record { is = rw e; start = h; end = omega arith }
-
-pub ruleset last_exits = (none_last, to_the_end)
-
--- ---- gap_from
-pub from_is :
-    (s : List ℕ) (b i : BoundSpan) {t : Bool}
-    → BoundInside s b
-    → t ≡ is_keyed b.kind
-    → i ≡ with_kind Included b
-    → StartFound s (gap_from (key_of (bound_in s b))) (record { there = t; bound = i })
-from_is s b i h e y = rw (e, y) (record { is = go b.kind (take b.len (drop b.at s)); inside = h })
-  where
-    go : (k : Kind) (x : Key) → if_so (is_keyed k) (bound_of (pick (is_keyed k) Included k) x) ≡ gap_from (key_of (bound_of k x))
-    go Unbounded x = refl
-    go Included x = refl
-    go Excluded x = refl
 
 -- ---- gaps_of
 -- the gaps from a bound on, between the intervals of the parts from k on
@@ -126,10 +69,10 @@ module _ {s : List ℕ} {k : ℕ} {x : PartSpan} (f : PartFound s k x) where
   left_is = ap intervals f.is ∙ rw f.held.durable_is
 
 module _ {s : List ℕ} {n : ℕ} {d t : List ℕ} {k r : ℕ} {g : GapStart} (p : GapsKept s n d t k r g) where
-  pub gaps_room : r * 6 + 6 ≤ length t
+  gaps_room : r * 6 + 6 ≤ length t
   gaps_room = omega (arith, p.few, p.upto, p.most, p.room, p.same)
 
-  pub gaps_same : (a b : BoundSpan) {t' : List ℕ} → t' ≡ splice t (r * 6) (gap_numbers a b) → length t' ≡ length d
+  gaps_same : (a b : BoundSpan) {t' : List ℕ} → t' ≡ splice t (r * 6) (gap_numbers a b) → length t' ≡ length d
   gaps_same a b e = spliced_length t (r * 6) (gap_numbers a b) e gaps_room ∙ p.same
 
   put : {q : Range} {m : RangeSpan} {t' : List ℕ} → GapHeld s q m → t' ≡ splice t (r * 6) (gap_numbers m.start m.end) → RowsHold 6 (GapIs s) (p.made ++ (q ∷ [])) t'
@@ -198,4 +141,4 @@ module _ {s : List ℕ} {n : ℕ} {d t : List ℕ} {k r : ℕ} {g : GapStart} (p
         same = gaps_same m.start m.end w;
       }
 
-pub ruleset gaps_exits = (gaps_begin, gaps_room, gaps_same, gaps_none, gaps_onward, gaps_all)
+pub ruleset gaps_exits = (gaps_begin, gaps_all)

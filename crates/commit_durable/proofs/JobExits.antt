@@ -31,9 +31,6 @@ no_job s d {r} {k} f q =
     record { is = ap ended e; same = refl }
 
 module _ (s : List ℕ) {r : JobRead} (f : JobFound s (job_head.read s) r) {e c from n first : ℕ} (q : r ≡ HeadAt e c from n first) where
-  pub parts_from : first ≤ length s
-  parts_from = (rw q at f.inside).1
-
   pub parts_most : n ≤ 64
   parts_most = parts_within s (drop first s) (e, (ids_in c (drop from s), n)) (sym f.meaning ∙ rw q)
 
@@ -79,4 +76,4 @@ module _ (s : List ℕ) {r : JobRead} (f : JobFound s (job_head.read s) r) {e c 
             same = x.same;
           }
 
-pub ruleset job_exits = (no_job, parts_from, parts_most, parts_stop, left_over, job_done)
+pub ruleset job_exits = (no_job, parts_most, parts_stop, left_over, job_done)

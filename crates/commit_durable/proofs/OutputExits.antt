@@ -1,8 +1,9 @@
 -- What the loop over a part's outputs keeps: the outputs read so far, what is told of them, and the cut that the last of
 -- them makes for the next; and the exits of the functions on one output.
 -- Assumes nothing.
-use Prim.Native.Nat.{ℕ, ◌-◌, ◌≤◌, ◌<◌}
+use Prim.Native.Nat.{ℕ, ◌+◌, ◌-◌, ◌≤◌, ◌<◌}
 use native.Mathlib.Nat.{add-zero}
+use native.Mathlib.Omega.{arith}
 use mathlib.Core.Path.{◌≡◌, refl, sym, ap, ◌∙◌}
 use mathlib.Core.Bool.{Bool, true, false, ◌&&◌, and-true, and-false}
 use mathlib.Core.List.{List, [], ◌∷◌, ◌++◌}
@@ -23,7 +24,7 @@ use Rattle.records.specs.declared.tables.TableRead.{TableRead}
 use Rattle.records.specs.declared.tables.TableRead.TheVariants.{At as TableAt, Stop as TableStop}
 use Rattle.records.proofs.Many.{Reading, begin, stopped, onward, all_read}
 use Rattle.manifest.specs.Checks.{keys_in_order, size_passes}
-use Rattle.manifest.specs.Faults.{fault_of, least, table_checks}
+use Rattle.manifest.specs.Faults.{fault_of, table_checks}
 use Rattle.manifest.specs.Spans.{first_span, last_kind, last_span, size_fits}
 use Rattle.manifest.proofs.Steps.{tables_none, tables_more}
 use Rattle.incremental_progress.specs.Checks.{ends_by, last_cut, outputs_from}
@@ -62,47 +63,32 @@ ends_by_lem true k e = sym (and-true (cut_at_most (after k) e))
 ends_by_lem false k e = sym (and-false (cut_at_most above e))
 
 module _ (s : List ℕ) (i j : BoundSpan) (t : TableSpan) where
-  pub first_in : {f : BoundSpan} → f ≡ first_span t → TableInside s t → BoundInside s f
-  first_in e p = rw e p.first
-
-  pub last_in_lem : {l : BoundSpan} → l ≡ last_span t → TableInside s t → BoundInside s l
-  last_in_lem e p = rw e p.last
-
-  module _ {f : BoundSpan} {o : Ordering} {a : Bool} (d : f ≡ first_span t) (g : o ≡ cmp_bound true (bound_in s i) (bound_in s f)) (h : a ≡ at_most o) where
+  module _ {f : BoundSpan} {o : Order} {a : Bool} (d : f ≡ first_span t) (g : o ≡ cmp_bound true (bound_in s i) (bound_in s f)) (h : a ≡ at_most o) where
     begins : cut_at_most (start_cut (bound_in s i)) (before (table_in s t).first) ≡ a
     begins =
         sym (h ∙ ap at_most g ∙ starts_by_cuts (bound_in s i) (bound_in s f) ∙ ap (λ m. cut_at_most (start_cut (bound_in s i)) (start_cut (bound_in s m))) d)
 
-    pub between :
-        {l : BoundSpan} {u : Ordering} {b c r : Bool}
-        → l ≡ last_span t
-        → u ≡ cmp_bound false (bound_in s l) (bound_in s j)
-        → b ≡ at_most u
-        → c ≡ (b && t.flagged)
-        → r ≡ (a && c)
-        → r ≡ output_between (end_cut (bound_in s j)) (start_cut (bound_in s i)) (table_in s t)
+    pub begins_before : a ≡ false → false ≡ output_between (end_cut (bound_in s j)) (start_cut (bound_in s i)) (table_in s t)
     unfolding output_between
-    between {l} q w k e z =
-        z
-        ∙ rw (begins, e, k, w, ends_by_cuts (bound_in s l) (bound_in s j), q)
-        (ap (λ x. a && x) (sym (ends_by_lem t.flagged (take t.last_len (drop t.last_at s)) (end_cut (bound_in s j)))))
+    begins_before e = rw (begins, e)
 
-pub ruleset between_exits = (first_in, last_in_lem, between)
+    module _ {l : BoundSpan} {u : Order} {b : Bool} (q : l ≡ last_span t) (w : u ≡ cmp_bound false (bound_in s l) (bound_in s j)) (k : b ≡ at_most u) (e : a ≡ true) where
+      between : output_between (end_cut (bound_in s j)) (start_cut (bound_in s i)) (table_in s t) ≡ (b && t.flagged)
+      unfolding output_between
+      between =
+          rw (begins, e, k, w, ends_by_cuts (bound_in s l) (bound_in s j), q)
+          (ends_by_lem t.flagged (take t.last_len (drop t.last_at s)) (end_cut (bound_in s j)))
 
--- ---- output_more
-pub more_is :
-    (s : List ℕ) (o : Outputs) (before end : BoundSpan) (t : TableSpan) {a b : Bool} {f g : ℕ}
-    → a ≡ output_between (end_cut (bound_in s end)) (start_cut (bound_in s before)) (table_in s t)
-    → f ≡ fault_of (table_checks (table_in s t))
-    → g ≡ least o.fault f
-    → b ≡ (o.inside && a)
-    → record { past = t.past; fault = g; inside = b; there = t.flagged; at = t.last_at; len = t.last_len } ≡ output_more s o before end t
-more_is s o b end t ha hf hg hb = rw (hg, hf, hb, ha)
+      pub ends_within : b ≡ true → t.flagged ≡ output_between (end_cut (bound_in s j)) (start_cut (bound_in s i)) (table_in s t)
+      ends_within z = rw (between, z)
+
+      pub ends_after : b ≡ false → false ≡ output_between (end_cut (bound_in s j)) (start_cut (bound_in s i)) (table_in s t)
+      ends_after z = rw (between, z)
 
 -- ---- outputs_read
-pub record OutputsSeen (s : List ℕ) (from n : ℕ) (planned : RangeSpan) (left : ℕ) (before : BoundSpan) (o : Outputs) : Type 0 where
+pub record OutputsSeen (s : List ℕ) (from n : ℕ) (planned : RangeSpan) (k : ℕ) (before : BoundSpan) (o : Outputs) : Type 0 where
   pub seen : List Table
-  pub reading : Reading table.read s from n left o.past seen
+  pub reading : Reading table.read s from n (n - k) o.past seen
   pub told : OutputsTold s planned seen o
   pub cut : start_cut (bound_in s before) ≡ cut_past output_cut (start_cut (bound_in s planned.start)) seen
   pub before_in : BoundInside s before
@@ -121,12 +107,13 @@ pub outputs_begin :
     (s : List ℕ) (from n : ℕ) (planned : RangeSpan)
     → from ≤ length s
     → BoundInside s planned.start
-    → OutputsSeen s from n planned n planned.start (none_yet from)
+    → OutputsSeen s from n planned 0 planned.start (none_yet from)
 unfolding outputs_from cut_past last_written
 outputs_begin s from n planned h b =
+    let z : n - 0 ≡ n = omega arith in
     record {
       seen = [];
-      reading = begin table.read s from n h;
+      reading = rw z (begin table.read s from n h);
       told = record { place = h; fault = sym tables_none; inside = refl; last = refl; last_in_lem = rw add-zero h };
       cut = refl;
       before_in = b;
@@ -137,30 +124,34 @@ last_start : (f : Bool) (k : Key) → start_cut (bound_of (last_kind f) k) ≡ l
 last_start true k = refl
 last_start false k = refl
 
-module _ {s : List ℕ} {from n : ℕ} {planned : RangeSpan} {left : ℕ} {before : BoundSpan} {o : Outputs} (p : OutputsSeen s from n planned left before o) where
-  pub outputs_end : left ≤ 0 → OutputsPassed s (read_many table.read n (drop from s)) planned (At o)
-  outputs_end h = record { is = record { tables = p.seen; is = all_read p.reading h; told = p.told } }
+module _ {s : List ℕ} {from n : ℕ} {planned : RangeSpan} {k : ℕ} {before : BoundSpan} {o : Outputs} (p : OutputsSeen s from n planned k before o) where
+  pub outputs_end : n ≤ k → OutputsPassed s (read_many table.read n (drop from s)) planned (At o)
+  outputs_end h = record { is = record { tables = p.seen; is = all_read p.reading (omega arith); told = p.told } }
 
-  module _ (h : 0 < left) {r : TableRead} (f : TableFound s (table.read (drop o.past s)) r) where
-    pub outputs_stop : {k : ℕ} → r ≡ TableStop k → OutputsPassed s (read_many table.read n (drop from s)) planned (Stop k)
-    outputs_stop {k} q = record { is = stopped p.reading {k = k} h (sym f.meaning ∙ rw q) }
+  module _ (h : k < n) {r : TableRead} (f : TableFound s (table.read (drop o.past s)) r) where
+    left : 0 < n - k
+    left = omega arith
+
+    pub outputs_stop : {c : ℕ} → r ≡ TableStop c → OutputsPassed s (read_many table.read n (drop from s)) planned (Stop c)
+    outputs_stop {c} q = record { is = stopped p.reading {k = c} left (sym f.meaning ∙ rw q) }
 
     module _ {t : TableSpan} (q : r ≡ TableAt t) where
-      pub output_in : TableInside s t
+      output_in : TableInside s t
       output_in = rw q at f.inside
 
       pub outputs_onward :
           {m : Outputs} {l : BoundSpan}
           → m ≡ output_more s o before planned.end t
           → l ≡ last_span t
-          → OutputsSeen s from n planned (left - 1) l m
+          → OutputsSeen s from n planned (k + 1) l m
       outputs_onward hm hl =
+          let z : n - k - 1 ≡ n - (k + 1) = omega arith in
           let e = end_cut (bound_in s planned.end) in
           let c = start_cut (bound_in s planned.start) in
           rw hm
           (record {
             seen = p.seen ++ (table_in s t ∷ []);
-            reading = onward p.reading h (sym f.meaning ∙ rw q) output_in.past;
+            reading = rw z at (onward p.reading {a = table_in s t} left (sym f.meaning ∙ rw q) output_in.past);
             told =
                 record {
                   place = output_in.past;
@@ -173,4 +164,4 @@ module _ {s : List ℕ} {from n : ℕ} {planned : RangeSpan} {left : ℕ} {befor
             before_in = rw hl output_in.last;
           })
 
-pub ruleset outputs_exits = (outputs_begin, outputs_end, outputs_stop, output_in, outputs_onward)
+pub ruleset outputs_exits = (outputs_begin, outputs_end, outputs_stop, outputs_onward)

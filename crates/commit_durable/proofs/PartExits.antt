@@ -5,7 +5,7 @@ use Prim.Native.Nat.{ℕ, ◌+◌, ◌*◌, ◌-◌, ◌≤◌, ◌<◌}
 use native.Mathlib.Omega.{arith}
 use native.Mathlib.Nat.{add-zero}
 use mathlib.Core.Path.{◌≡◌, refl, sym, ap, ◌∙◌}
-use mathlib.Core.Bool.{Bool, true, false, not, ◌&&◌, and-true, and_assoc}
+use mathlib.Core.Bool.{Bool, true, false, not, ◌&&◌, and_assoc}
 use mathlib.Core.List.{List, [], ◌∷◌, ◌++◌}
 use lib.ListN.{length, take, drop, length-append}
 use lib.Dec.{eqb}
@@ -40,7 +40,7 @@ use Rattle.commit_rows.specs.declared.parts.PartSpan.{PartSpan}
 use Rattle.commit_rows.proofs.RowExits.{part_back}
 use Rattle.commit_durable.specs.Faults.{planned_after}
 use Rattle.commit_durable.specs.Tables.{PartIs}
-use Rattle.commit_durable.specs.Answers.{last_in, LastInside, OutputsPassed, RowMade, half_open_kinds, cut_of, part_more, part_fault, PartGot, PartPassed, PartsTold, PartsPassed}
+use Rattle.commit_durable.specs.Answers.{last_in, OutputsPassed, RowMade, half_open_kinds, cut_of, part_more, part_fault, PartGot, PartPassed, PartsTold, PartsPassed}
 use Rattle.commit_durable.specs.declared.outputs.Outputs.{Outputs}
 use Rattle.commit_durable.specs.declared.outputs.OutputsRead.{OutputsRead}
 use Rattle.commit_durable.specs.declared.outputs.OutputsRead.TheVariants.{At as OutputsAt, Stop as OutputsStop}
@@ -77,25 +77,17 @@ module _ (s : List ℕ) (first : Bool) (b i j : BoundSpan) {h : Bool} (e : h ≡
   unfolding planned_after
   opened = rw (e, half_open_lem i.kind j.kind (take i.len (drop i.at s)) (take j.len (drop j.at s))) (simp and_assoc)
 
-  pub first_part : first ≡ true → h ≡ planned_after (cut_of first (bound_in s b)) (range_in s i j)
-  first_part f = sym (opened ∙ rw (f, (below-≼ (start_cut (bound_in s i))).holds) (and-true h))
+  pub not_half_open : h ≡ false → h ≡ planned_after (cut_of first (bound_in s b)) (range_in s i j)
+  not_half_open y = y ∙ sym (opened ∙ rw y)
 
-  pub next_part : {t r : Bool} → first ≡ false → t ≡ non_empty (range_in s i b) → r ≡ (h && not t) → r ≡ planned_after (cut_of first (bound_in s b)) (range_in s i j)
-  next_part f w z = z ∙ ap (λ x. h && x) (ap not w ∙ after_by_cuts (range_in s i b)) ∙ sym (opened ∙ rw f)
+  module _ (y : h ≡ true) where
+    pub first_part : first ≡ true → first ≡ planned_after (cut_of first (bound_in s b)) (range_in s i j)
+    first_part f = f ∙ sym (opened ∙ rw (y, f, (below-≼ (start_cut (bound_in s i))).holds))
 
-pub ruleset after_exits = (first_part, next_part)
+    pub next_part : {t : Bool} → first ≡ false → t ≡ non_empty (range_in s i b) → not t ≡ planned_after (cut_of first (bound_in s b)) (range_in s i j)
+    next_part f w = ap not w ∙ after_by_cuts (range_in s i b) ∙ sym (opened ∙ rw (y, f))
 
--- ---- part_more
-pub more_is :
-    (s : List ℕ) (first : Bool) (p : PartsSeen) (r : RangeSpan) (o : Outputs) {f g h : ℕ} {z a b : Bool}
-    → z ≡ planned_after (cut_of first (bound_in s p.end)) (range_in s r.start r.end)
-    → f ≡ fault_of (planned (non_empty (range_in s r.start r.end)))
-    → g ≡ least f o.fault
-    → h ≡ least p.fault g
-    → a ≡ (p.planned && z)
-    → b ≡ (p.inside && o.inside)
-    → record { past = o.past; fault = h; planned = a; inside = b; end = r.end } ≡ part_more s first p r o
-more_is s first p r o hz hf hg hh ha hb = rw (hh, hg, hf, ha, hz, hb)
+pub ruleset after_exits = (not_half_open, first_part, next_part)
 
 -- ---- part_read
 abbrev range_of : BoundSpan → BoundSpan → RangeSpan
@@ -112,13 +104,10 @@ module _ (s : List ℕ) (k : ℕ) (p : PartsSeen) (t : List ℕ) {r : PartRead} 
   head_stop q = record { is = part_is (drop p.past s) ∙ rw (← f.meaning, q); same = refl }
 
   module _ {i j : BoundSpan} {c : Bool} {m next : ℕ} (q : r ≡ HeadAt i j c m next) where
-    pub start_inside : BoundInside s i
-    start_inside = (rw q at f.inside).0
-
-    pub end_inside : BoundInside s j
+    end_inside : BoundInside s j
     end_inside = (rw q at f.inside).1.0
 
-    pub outputs_from_lem : next ≤ length s
+    outputs_from_lem : next ≤ length s
     outputs_from_lem = (rw q at f.inside).1.1
 
     few_outputs : m ≤ 1024
@@ -134,9 +123,6 @@ module _ (s : List ℕ) (k : ℕ) (p : PartsSeen) (t : List ℕ) {r : PartRead} 
           record { is = part_opened ∙ rw e; same = refl }
 
       module _ {o : Outputs} (y : w ≡ OutputsAt o) where
-        pub last_inside : LastInside s o
-        last_inside = (rw y at x.is).told.last_in_lem
-
         pub part_done :
             {h : PartSpan} {u : List ℕ} {e : PartsSeen}
             → k * 10 + 10 ≤ length t
@@ -178,7 +164,7 @@ module _ (s : List ℕ) (k : ℕ) (p : PartsSeen) (t : List ℕ) {r : PartRead} 
               same = spliced_length t (k * 10) (part_numbers h) hu room;
             })
 
-pub ruleset part_exits = (head_stop, start_inside, end_inside, outputs_from_lem, outputs_stop, last_inside, part_done, spliced_length)
+pub ruleset part_exits = (head_stop, outputs_stop, part_done)
 
 -- ---- parts_read
 pub record PartsKept (s : List ℕ) (from n : ℕ) (d t : List ℕ) (k : ℕ) (p : PartsSeen) : Type 0 where
@@ -224,14 +210,14 @@ module _ {s : List ℕ} {from n : ℕ} {d t : List ℕ} {k : ℕ} {p : PartsSeen
       }
 
   module _ (h : k < n) where
-    pub part_room : k * 10 + 10 ≤ length t
+    part_room : k * 10 + 10 ≤ length t
     part_room = omega (arith, q.most, q.room, q.same)
 
     left : 0 < n - k
     left = omega arith
 
     module _ {u : List ℕ} {w : PartsJudged} (x : PartPassed s (part.read (drop p.past s)) k p t u w) where
-      pub more_same : length u ≡ length d
+      more_same : length u ≡ length d
       more_same = x.same ∙ q.same
 
       pub parts_stop : {c : ℕ} → w ≡ Stop c → PartsPassed s (read_many part.read n (drop from s)) n d u (Stop c)
@@ -268,4 +254,4 @@ module _ {s : List ℕ} {from n : ℕ} {d t : List ℕ} {k : ℕ} {p : PartsSeen
       pub parts_onward : {m : PartsSeen} → w ≡ At m → PartsKept s from n d u (k + 1) m
       parts_onward y = onward_by (rw y at x.is)
 
-pub ruleset parts_exits = (parts_begin, parts_end, part_room, more_same, parts_stop, parts_onward)
+pub ruleset parts_exits = (parts_begin, parts_end, parts_stop, parts_onward)

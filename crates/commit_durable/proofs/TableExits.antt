@@ -1,6 +1,6 @@
 -- The exits of `part_at` and `gap_at`.
 -- Assumes nothing.
-use Prim.Native.Nat.{ℕ, ◌+◌, ◌*◌, ◌≤◌, ◌<◌}
+use Prim.Native.Nat.{ℕ, ◌<◌}
 use native.Mathlib.Omega.{arith}
 use native.Mathlib.Numerals.{add-one}
 use mathlib.Core.Path.{◌≡◌}
@@ -21,9 +21,6 @@ abbrev nothing : Part
 nothing = record { planned = void; completed = false; outputs = [] }
 
 module _ {s : List ℕ} {n : ℕ} {t : List ℕ} (p : PartsHold s n t) {k : ℕ} (h : k < n) where
-  pub part_room : k * 10 + 10 ≤ length t
-  part_room = omega (arith, p.rows.long, p.count)
-
   pub part_found : {r : PartSpan} → r ≡ part_of (row_at 10 k t) → PartFound s k r
   part_found {r} e =
       let l : k < length (job_of s).parts = omega (arith, p.count) in
@@ -31,18 +28,11 @@ module _ {s : List ℕ} {n : ℕ} {t : List ℕ} (p : PartsHold s n t) {k : ℕ}
       let x : PartHeld s (get_or (job_of s).parts k nothing) r = rw (← e) at (hold_at 10 (PartIs s) p.rows l d) in
       record { part = get_or (job_of s).parts k nothing; is = rw (add-one k) d; held = x }
 
-pub ruleset part_exits = (part_room, part_found)
-
 -- ---- gap_at
 module _ {s : List ℕ} {m : ℕ} {t : List ℕ} (p : GapsHold s m t) {g : ℕ} (h : g < m) where
-  pub gap_room : g * 6 + 6 ≤ length t
-  gap_room = omega (arith, p.rows.long, p.count)
-
   pub gap_found : {r : RangeSpan} → r ≡ gap_of (row_at 6 g t) → GapFound s g r
   gap_found {r} e =
       let l : g < length (job_gaps s) = omega (arith, p.count) in
       let d = drop-cons (job_gaps s) g void l in
       let x : GapHeld s (get_or (job_gaps s) g void) r = rw (← e) at (hold_at 6 (GapIs s) p.rows l d) in
       record { is = rw (x.is, add-one g) d; start = x.start; end = x.end }
-
-pub ruleset gap_exits = (gap_room, gap_found)

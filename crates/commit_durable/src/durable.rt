@@ -4,7 +4,7 @@ ghost use Rattle.format.specs.Range.{BoundInside, bound_in};
 ghost use Rattle.incremental_progress.specs.Parts.{key_of, is_key};
 ghost use Rattle.commit_durable.specs.Answers.{last_in, LastInside, with_kind, RowMade};
 
-use crate::outputs::{Outputs, both};
+use crate::outputs::Outputs;
 use commit_rows::PartSpan;
 use comparable_range::{Kind, keyed};
 use format::BoundSpan;
@@ -14,15 +14,11 @@ use format::span::RangeSpan;
 pub fn with_kind(b: BoundSpan, kind: Kind) -> BoundSpan
     ensures { result ≡ with_kind kind b }
 {
-    let own = b.kind;
-    if keyed(own) {
-        return BoundSpan {
-            kind,
-            at: b.at,
-            len: b.len,
-        };
+    if keyed(b.kind) {
+        BoundSpan { kind, ..b }
+    } else {
+        b
     }
-    b
 }
 
 // Whether a bound's key, if it has one, is another's.
@@ -31,9 +27,7 @@ fn is_key(job: &[u8], b: BoundSpan, k: BoundSpan) -> bool
     requires fact_2 { BoundInside job.now k }
     ensures { result ≡ is_key (key_of (bound_in job.now b)) (take k.len (drop k.at job.now)) }
 {
-    let kind = b.kind;
-    let equal = key::cmp(format::key_of(job, b), format::key_of(job, k)).is_eq();
-    both(keyed(kind), equal)
+    keyed(b.kind) && key::is_equal(key::cmp(format::key_of(job, b), format::key_of(job, k)))
 }
 
 // The row of a part. Completed, all that was planned is durable; or else what lies before the last written key, if that is
@@ -68,7 +62,7 @@ pub fn row_of(
         len: o.len,
     };
     PartSpan {
-        durable: both(o.there, !is_key(job, planned.start, end)),
+        durable: o.there && !is_key(job, planned.start, end),
         completed,
         outputs,
         first,

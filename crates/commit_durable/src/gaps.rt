@@ -8,11 +8,16 @@ ghost use Rattle.commit_durable.specs.Answers.{start_in, StartInside, StartFound
 ghost use Rattle.commit_durable.specs.Tables.{PartsHold, GapHeld, GapsHold, GapFound};
 
 use crate::durable::with_kind;
-use crate::outputs::both;
 use crate::tables::part_at;
 use comparable_range::{Kind, keyed};
 use format::BoundSpan;
 use format::span::RangeSpan;
+
+const UNBOUNDED: BoundSpan = BoundSpan {
+    kind: Kind::Unbounded,
+    at: 0,
+    len: 0,
+};
 
 // Where the next gap starts, if it is not void.
 #[derive(Clone, Copy)]
@@ -26,11 +31,7 @@ fn void_gap(job: &[u8]) -> RangeSpan
     ensures { GapHeld job.now void result }
 {
     RangeSpan {
-        start: BoundSpan {
-            kind: Kind::Unbounded,
-            at: 0,
-            len: 0,
-        },
+        start: UNBOUNDED,
         end: BoundSpan {
             kind: Kind::Excluded,
             at: 0,
@@ -45,15 +46,14 @@ fn gap_to(job: &[u8], from: GapStart, start: BoundSpan) -> RangeSpan
     requires fact_2 { BoundInside job.now start }
     ensures { GapHeld job.now (gap_to (start_in job.now from) (key_of (bound_in job.now start))) result }
 {
-    let kind = start.kind;
-    if both(from.there, keyed(kind)) {
-        let bound = from.bound;
-        return RangeSpan {
-            start: bound,
+    if from.there && keyed(start.kind) {
+        RangeSpan {
+            start: from.bound,
             end: with_kind(start, Kind::Excluded),
-        };
+        }
+    } else {
+        void_gap(job)
     }
-    void_gap(job)
 }
 
 // The gap after the last interval.
@@ -62,17 +62,13 @@ fn last_gap(job: &[u8], from: GapStart) -> RangeSpan
     ensures { GapHeld job.now (last_gap (start_in job.now from)) result }
 {
     if from.there {
-        let bound = from.bound;
-        return RangeSpan {
-            start: bound,
-            end: BoundSpan {
-                kind: Kind::Unbounded,
-                at: 0,
-                len: 0,
-            },
-        };
+        RangeSpan {
+            start: from.bound,
+            end: UNBOUNDED,
+        }
+    } else {
+        void_gap(job)
     }
-    void_gap(job)
 }
 
 // Where the gap after an interval's end starts.
@@ -80,9 +76,8 @@ fn gap_from(job: &[u8], end: BoundSpan) -> GapStart
     requires { BoundInside job.now end }
     ensures { StartFound job.now (gap_from (key_of (bound_in job.now end))) result }
 {
-    let kind = end.kind;
     GapStart {
-        there: keyed(kind),
+        there: keyed(end.kind),
         bound: with_kind(end, Kind::Included),
     }
 }
@@ -93,19 +88,13 @@ pub fn gaps_of(job: &[u8], parts: &[usize], n: usize, gaps: &mut [usize]) -> usi
     requires fact_2 { 390 ≤ length gaps.old }
     ensures { GapsMade job.now gaps.old gaps.new result }
 {
-    let mut k = 0;
     let mut made = 0;
     let mut from = GapStart {
         there: true,
-        bound: BoundSpan {
-            kind: Kind::Unbounded,
-            at: 0,
-            len: 0,
-        },
+        bound: UNBOUNDED,
     };
-    while k < n {
+    for k in 0..n {
         let p = part_at(job, parts, n, k);
-        k += 1;
         if p.durable {
             let gap = gap_to(job, from, p.start);
             commit_rows::put_gap(gaps, made, gap.start, gap.end);

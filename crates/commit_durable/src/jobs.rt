@@ -28,13 +28,13 @@ pub enum JobJudged {
 fn late_fault(planned: bool, inside: bool) -> u8
     ensures { result ≡ pick planned (pick inside 12 11) 10 }
 {
-    if planned {
-        if inside {
-            return 12;
-        }
-        return 11;
+    if !planned {
+        10
+    } else if !inside {
+        11
+    } else {
+        12
     }
-    10
 }
 
 // The job that is the whole of a buffer, and its parts in a table.

@@ -1,5 +1,5 @@
 // The outputs of a part, read once: the first of the checks 5 and 7 that they fail, check 11, and the last written key.
-ghost use Rattle.std.specs.Prelude.{◌≡◌, ◌&&◌, ◌≤◌, length, drop};
+ghost use Rattle.std.specs.Prelude.{◌≡◌, ◌≤◌, length, drop};
 ghost use Rattle.comparable_range.specs.Cut.{start_cut, end_cut};
 ghost use Rattle.format.specs.Range.{BoundInside, bound_in};
 ghost use Rattle.records.specs.Form.{read_many};
@@ -14,27 +14,18 @@ use format::{BoundSpan, span};
 use manifest::{keys_in_order, lesser, own_end, own_start, size_passes};
 use records::{TableRead, TableSpan};
 
-pub fn both(a: bool, b: bool) -> bool
-    ensures { result ≡ (a && b) }
-{
-    if a {
-        return b;
-    }
-    false
-}
-
 // The number of the first check of 5 and 7 that a table fails, or 8.
 fn table_fault(job: &[u8], t: TableSpan) -> u8
     requires { TableInside job.now t }
     ensures { result ≡ fault_of (table_checks (table_in job.now t)) }
 {
-    if keys_in_order(job, t) {
-        if size_passes(t.index_offset, t.index_len) {
-            return 8;
-        }
-        return 7;
+    if !keys_in_order(job, t) {
+        5
+    } else if !size_passes(t.index_offset, t.index_len) {
+        7
+    } else {
+        8
     }
-    5
 }
 
 // Check 11 of one output: its first key lies at or after a start, its last key at or before an end, and it has a last key.
@@ -44,9 +35,9 @@ fn output_between(job: &[u8], start: BoundSpan, end: BoundSpan, t: TableSpan) ->
     requires fact_3 { TableInside job.now t }
     ensures { result ≡ output_between (end_cut (bound_in job.now end)) (start_cut (bound_in job.now start)) (table_in job.now t) }
 {
-    let begins = span::compare(job, start, job, own_start(t), true).is_le();
-    let ends = span::compare(job, own_end(t), job, end, false).is_le();
-    both(begins, both(ends, t.flagged))
+    key::at_most(span::compare(job, start, job, own_start(t), true))
+        && key::at_most(span::compare(job, own_end(t), job, end, false))
+        && t.flagged
 }
 
 // Of the outputs read so far: the place past them, the first of the checks 5 and 7 that they fail or 8, whether they pass
@@ -68,11 +59,10 @@ fn output_more(job: &[u8], o: Outputs, before: BoundSpan, end: BoundSpan, t: Tab
     requires fact_3 { TableInside job.now t }
     ensures { result ≡ output_more job.now o before end t }
 {
-    let inside = output_between(job, before, end, t);
     Outputs {
         past: t.past,
         fault: lesser(o.fault, table_fault(job, t)),
-        inside: both(o.inside, inside),
+        inside: o.inside && output_between(job, before, end, t),
         there: t.flagged,
         at: t.last_at,
         len: t.last_len,
@@ -92,7 +82,6 @@ pub fn outputs_read(job: &[u8], from: usize, n: usize, planned: RangeSpan) -> Ou
     requires fact_3 { BoundInside job.now planned.end }
     ensures { OutputsPassed job.now (read_many table.read n (drop from job.now)) planned result }
 {
-    let mut left = n;
     let mut before = planned.start;
     let mut o = Outputs {
         past: from,
@@ -102,16 +91,12 @@ pub fn outputs_read(job: &[u8], from: usize, n: usize, planned: RangeSpan) -> Ou
         at: from,
         len: 0,
     };
-    while 0 < left {
+    for _ in 0..n {
         match records::table_at(job, o.past) {
-            TableRead::Stop(k) => {
-                return OutputsRead::Stop(k);
-            }
+            TableRead::Stop(k) => return OutputsRead::Stop(k),
             TableRead::At(t) => {
-                let last = own_end(t);
                 o = output_more(job, o, before, planned.end, t);
-                before = last;
-                left -= 1;
+                before = own_end(t);
             }
         }
     }

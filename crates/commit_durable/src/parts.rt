@@ -10,7 +10,7 @@ ghost use Rattle.commit_durable.specs.Faults.{planned_after};
 ghost use Rattle.commit_durable.specs.Answers.{half_open_kinds, cut_of, part_more, PartPassed, PartsPassed};
 
 use crate::durable::row_of;
-use crate::outputs::{Outputs, OutputsRead, both, outputs_read};
+use crate::outputs::{Outputs, OutputsRead, outputs_read};
 use comparable_range::Kind;
 use format::span::RangeSpan;
 use format::{BoundSpan, span};
@@ -24,28 +24,17 @@ fn planned_fault(job: &[u8], r: RangeSpan) -> u8
     ensures { result ≡ fault_of (planned (non_empty (range_in job.now r.start r.end))) }
 {
     if span::passes(job, r.start, job, r.end) {
-        return 8;
+        8
+    } else {
+        4
     }
-    4
 }
 
 // Whether a planned range does not start excluded and does not end included.
 pub fn half_open(start: Kind, end: Kind) -> bool
     ensures { result ≡ half_open_kinds start end }
 {
-    match start {
-        Kind::Excluded => false,
-        Kind::Unbounded => match end {
-            Kind::Unbounded => true,
-            Kind::Included => false,
-            Kind::Excluded => true,
-        },
-        Kind::Included => match end {
-            Kind::Unbounded => true,
-            Kind::Included => false,
-            Kind::Excluded => true,
-        },
-    }
+    !matches!(start, Kind::Excluded) && !matches!(end, Kind::Included)
 }
 
 // Check 10 of one part. It does not begin before the end of the part before it exactly if the range from its start to that
@@ -55,15 +44,7 @@ fn planned_after(job: &[u8], first: bool, before: BoundSpan, r: RangeSpan) -> bo
     requires fact_2 { BoundInside job.now r.start }
     ensures { result ≡ planned_after (cut_of first (bound_in job.now before)) (range_in job.now r.start r.end) }
 {
-    let start = r.start;
-    let end = r.end;
-    let ks = start.kind;
-    let ke = end.kind;
-    let kinds = half_open(ks, ke);
-    if first {
-        return kinds;
-    }
-    both(kinds, !span::passes(job, start, job, before))
+    half_open(r.start.kind, r.end.kind) && (first || !span::passes(job, r.start, job, before))
 }
 
 // Of the parts read so far: the place past them, the first of the checks 4, 5 and 7 that they fail or 8, whether they pass
@@ -84,15 +65,12 @@ fn part_more(job: &[u8], first: bool, p: PartsSeen, planned: RangeSpan, o: Outpu
     requires fact_3 { BoundInside job.now planned.end }
     ensures { result ≡ part_more job.now first p planned o }
 {
-    let after = planned_after(job, first, p.end, planned);
-    let fault = lesser(planned_fault(job, planned), o.fault);
-    let end = planned.end;
     PartsSeen {
         past: o.past,
-        fault: lesser(p.fault, fault),
-        planned: both(p.planned, after),
-        inside: both(p.inside, o.inside),
-        end,
+        fault: lesser(p.fault, lesser(planned_fault(job, planned), o.fault)),
+        planned: p.planned && planned_after(job, first, p.end, planned),
+        inside: p.inside && o.inside,
+        end: planned.end,
     }
 }
 
@@ -138,7 +116,6 @@ pub fn parts_read(job: &[u8], from: usize, n: usize, parts: &mut [usize]) -> Par
     requires fact_3 { 640 ≤ length parts.old }
     ensures { PartsPassed job.now (read_many part.read n (drop from job.now)) n parts.old parts.new result }
 {
-    let mut seen = 0;
     let mut p = PartsSeen {
         past: from,
         fault: 8,
@@ -150,15 +127,10 @@ pub fn parts_read(job: &[u8], from: usize, n: usize, parts: &mut [usize]) -> Par
             len: 0,
         },
     };
-    while seen < n {
+    for seen in 0..n {
         match part_read(job, seen, p, parts) {
-            PartsJudged::Stop(k) => {
-                return PartsJudged::Stop(k);
-            }
-            PartsJudged::At(m) => {
-                p = m;
-                seen += 1;
-            }
+            PartsJudged::Stop(k) => return PartsJudged::Stop(k),
+            PartsJudged::At(m) => p = m,
         }
     }
     PartsJudged::At(p)

@@ -8,14 +8,10 @@ pub fn is_source(job: &[u8], from: usize, n: usize, id: u64) -> bool
     requires { from + 4 * n ≤ length job.now }
     ensures { result ≡ has id (ids_in n (drop from job.now)) }
 {
-    let mut left = n;
-    let mut at = from;
-    while 0 < left {
-        if format::number_there(job, at, 4) == id {
+    for i in 0..n {
+        if format::number_there(job, from + 4 * i, 4) == id {
             return true;
         }
-        at += 4;
-        left -= 1;
     }
     false
 }

@@ -10,7 +10,7 @@ use Rattle.key.specs.Order.{swap, is_equal, is_less, at_most}
 use Rattle.std.specs.declared.cmp.Ordering.{Ordering}
 use Rattle.std.specs.declared.cmp.Ordering.TheVariants.{Less, Equal, Greater}
 use Rattle.comparable_range.specs.Range.{Bound, Range, of, supplied, cmp_bound, non_empty, start_side, end_side, intersect_sides, intersect}
-use Rattle.comparable_range.specs.Cut.{cut_at_most, ◌≼◌, later, start_cut, end_cut}
+use Rattle.comparable_range.specs.Cut.{cut_at_most, ◌≼◌, start_cut, end_cut}
 use Rattle.comparable_range.specs.declared.Side.{Side}
 use Rattle.comparable_range.specs.declared.Side.TheVariants.{First, Second}
 use Rattle.comparable_range.proofs.Cut.{cut_order_is_total}
@@ -127,10 +127,7 @@ module _ (r g : Range) {a : Side} (p : StartsWithin r g a) where
 pub ruleset within_exits = (within_whole, within_through, within_behind)
 
 -- ---- which of the two it is
-pub starts_before : (a b : Bound) {o : Ordering} → o ≡ cmp_bound true a b → o ≡ Less → cmp_bound true a b ≡ Less
-starts_before a b e f = sym e ∙ f
-
-module _ (r g : Range) {o : Ordering} (e : o ≡ cmp_bound true r.start g.start) where
+module _ (r g : Range) {o : Order} (e : o ≡ cmp_bound true r.start g.start) where
   pub starts_alike : o ≡ Equal → non_empty r ≡ true → StartsWithin r g Second
   unfolding start_side
   starts_alike f n = record { passes = n; later = rw (← e, f); is = rw (← e, f) }
@@ -139,4 +136,4 @@ module _ (r g : Range) {o : Ordering} (e : o ≡ cmp_bound true r.start g.start)
   unfolding start_side
   starts_after f n = record { passes = n; later = rw (← e, f); is = rw (← e, f) }
 
-pub ruleset meet_exits = (starts_before, starts_alike, starts_after)
+pub ruleset meet_exits = (starts_alike, starts_after)

@@ -17,31 +17,23 @@ use Rattle.format.specs.declared.span.RangeSpan.{RangeSpan}
 use Rattle.manifest.specs.Laws.{StartsHeld}
 use Rattle.incremental_progress.specs.Gaps.{pieces, gaps_met}
 use Rattle.commit_durable.specs.Tables.{job_gaps, GapsHold, GapFound}
-use Rattle.commit_gaps.specs.Ordered.{Behind, Ahead, GapsOrdered}
+use Rattle.commit_gaps.specs.Ordered.{Ahead, GapsOrdered}
 use Rattle.commit_gaps.specs.declared.piece.Piece.{Piece}
 use Rattle.commit_gaps.specs.declared.piece.Meeting.{Meeting}
 use Rattle.commit_gaps.specs.declared.piece.Meeting.TheVariants.{Apart, Past, Last, More}
 use Rattle.commit_gaps.specs.declared.next.NextPiece.TheVariants.{None, At}
-use Rattle.commit_gaps.specs.Found.{Inside, Shared, MeetingIs, nothing, ended, ends, goes_on, Reached, NextFound, no_piece, a_piece}
+use Rattle.commit_gaps.specs.Found.{Shared, MeetingIs, nothing, ended, ends, goes_on, Reached, NextFound, no_piece, a_piece}
 use Rattle.commit_gaps.proofs.Places.{take_more, pairs_at}
 use Rattle.commit_gaps.proofs.Passing.{all_clear, none_met, past_none, past_clear, ended_clear}
 
 -- ---- first_gap
 module _ {b : Bound} {s : List ℕ} {m g : ℕ} where
-  pub reached_none : m ≤ g → Reached b s m g → Reached b s m m
-  reached_none h p = let z : g ≡ m = omega (arith, p.upto) in rw z at p
-
   pub reached_next : {r : RangeSpan} {t : Bool} → g < m → Reached b s m g → GapFound s g r → t ≡ non_empty (record { start = b; end = (range_in s r.start r.end).end }) → t ≡ false → Reached b s m (g + 1)
   reached_next {r} h p f e q =
       record {
         upto = omega arith;
         behind = rw (take_more g (job_gaps s) f.is) (All-append _ (take g (job_gaps s)) (range_in s r.start r.end ∷ []) p.behind (sym e ∙ q, tt));
       }
-
-pub reached_start : {b : Bound} {s : List ℕ} {m g : ℕ} → g ≤ m → Behind b (take g (job_gaps s)) → Reached b s m g
-reached_start h p = record { upto = h; behind = p }
-
-pub ruleset first_exits = (reached_start, reached_none, reached_next)
 
 -- ---- what a meeting says
 module _ {r g : Range} where
@@ -73,9 +65,6 @@ pub record Seeking (s : List ℕ) (r : Range) (m from g : ℕ) : Type 0 where
   pub upto : g ≤ m
   pub same : pieces (drop from (job_gaps s)) r ≡ pieces (drop g (job_gaps s)) r
   pub same_met : gaps_met from (drop from (job_gaps s)) r ≡ gaps_met g (drop g (job_gaps s)) r
-
-pub seek : {s : List ℕ} {r : Range} {m from : ℕ} → from ≤ m → Seeking s r m from from
-seek h = record { begun = omega arith; upto = h; same = refl; same_met = refl }
 
 -- after the last gap there is nothing
 past_all : {s : List ℕ} {m : ℕ} {t : List ℕ} (r : Range) (g : ℕ) → GapsHold s m t → m ≤ g → (pieces (drop g (job_gaps s)) r ≡ []) × (gaps_met g (drop g (job_gaps s)) r ≡ [])
@@ -154,7 +143,4 @@ held_passes r s = go (non_empty r) refl
     go true e = refl
     go false e = absurd (true≢false (sym s.held ∙ failing_holds_none r e s.key))
 
-pub gap_inside : {s : List ℕ} {g : ℕ} {b : RangeSpan} → GapFound s g b → Inside s b
-gap_inside f = record { start = f.start; end = f.end }
-
-pub ruleset next_exits = (seek, sought_all, sought_apart, sought_past, sought_more, sought_last, held_passes, gap_inside)
+pub ruleset next_exits = (sought_all, sought_apart, sought_past, sought_more, sought_last, held_passes)

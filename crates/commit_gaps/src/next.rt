@@ -25,14 +25,11 @@ pub fn first_gap(
     requires fact_4 { Behind (bound_in image.now start) (take from (job_gaps job.now)) }
     ensures { Reached (bound_in image.now start) job.now m result }
 {
-    let mut g = from;
-    while g < m {
+    for g in from..m {
         let gap = commit_durable::gap_at(job, gaps, m, g);
-        let end = gap.end;
-        if span::passes(image, start, job, end) {
+        if span::passes(image, start, job, gap.end) {
             return g;
         }
-        g += 1;
     }
     m
 }
@@ -65,16 +62,11 @@ pub fn next_piece<'a>(
     requires fact_5 { from ≤ m }
     ensures { NextFound job.now (range_in image.now range.start range.end) m from result }
 {
-    let mut g = from;
-    while g < m {
+    for g in from..m {
         let bounds = commit_durable::gap_at(job, gaps, m, g);
         match meet(image, range, job, bounds) {
-            Meeting::Apart => {
-                g += 1;
-            }
-            Meeting::Past => {
-                return NextPiece::None;
-            }
+            Meeting::Apart => {}
+            Meeting::Past => return NextPiece::None,
             Meeting::Last(piece) => {
                 return NextPiece::At {
                     gap: g,

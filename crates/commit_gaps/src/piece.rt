@@ -33,23 +33,16 @@ fn meeting_ahead<'a>(image: &'a [u8], range: RangeSpan, job: &'a [u8], gap: Rang
     requires fact_3 { cmp_bound true (bound_in image.now range.start) (bound_in job.now gap.start) ≡ Less }
     ensures { MeetingIs (range_in image.now range.start range.end) (range_in job.now gap.start gap.end) result }
 {
-    let start = gap.start;
-    let end = range.end;
-    let until = gap.end;
-    if span::passes(job, start, image, end) {
-        match span::lesser_end(image, end, job, until) {
-            Side::First => {
-                return Meeting::Last(Piece::Cut(Side::Second, Side::First));
-            }
-            Side::Second => {
-                if span::passes(job, start, job, until) {
-                    return Meeting::More(Piece::Cut(Side::Second, Side::Second));
-                }
-                return Meeting::Apart;
-            }
-        }
+    if !span::passes(job, gap.start, image, range.end) {
+        return Meeting::Past;
     }
-    Meeting::Past
+    match span::lesser_end(image, range.end, job, gap.end) {
+        Side::First => Meeting::Last(Piece::Cut(Side::Second, Side::First)),
+        Side::Second if span::passes(job, gap.start, job, gap.end) => {
+            Meeting::More(Piece::Cut(Side::Second, Side::Second))
+        }
+        Side::Second => Meeting::Apart,
+    }
 }
 
 // Of a range that starts where the gap does (second) or after that (first).
@@ -65,17 +58,12 @@ fn meeting_within<'a>(
     requires fact_3 { StartsWithin (range_in image.now range.start range.end) (range_in job.now gap.start gap.end) side }
     ensures { MeetingIs (range_in image.now range.start range.end) (range_in job.now gap.start gap.end) result }
 {
-    let start = range.start;
-    let end = range.end;
-    let until = gap.end;
-    match span::lesser_end(image, end, job, until) {
+    match span::lesser_end(image, range.end, job, gap.end) {
         Side::First => Meeting::Last(Piece::Whole),
-        Side::Second => {
-            if span::passes(image, start, job, until) {
-                return Meeting::More(Piece::Cut(side, Side::Second));
-            }
-            Meeting::Apart
+        Side::Second if span::passes(image, range.start, job, gap.end) => {
+            Meeting::More(Piece::Cut(side, Side::Second))
         }
+        Side::Second => Meeting::Apart,
     }
 }
 
@@ -86,11 +74,9 @@ pub fn meet<'a>(image: &'a [u8], range: RangeSpan, job: &'a [u8], gap: RangeSpan
     requires fact_3 { non_empty (range_in image.now range.start range.end) ≡ true }
     ensures { MeetingIs (range_in image.now range.start range.end) (range_in job.now gap.start gap.end) result }
 {
-    let start = range.start;
-    let from = gap.start;
-    match span::compare(image, start, job, from, true) {
-        Ordering::Less => meeting_ahead(image, range, job, gap),
-        Ordering::Equal => meeting_within(image, range, job, gap, Side::Second),
-        Ordering::Greater => meeting_within(image, range, job, gap, Side::First),
+    match span::compare(image, range.start, job, gap.start, true) {
+        Order::Less => meeting_ahead(image, range, job, gap),
+        Order::Equal => meeting_within(image, range, job, gap, Side::Second),
+        Order::Greater => meeting_within(image, range, job, gap, Side::First),
     }
 }

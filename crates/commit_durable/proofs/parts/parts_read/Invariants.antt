@@ -1,11 +1,7 @@
 -- `commit_durable::parts::parts_read` meets its contract.
 -- Assumes nothing.
-use Prim.Native.Nat.{◌-◌}
 use Rattle.commit_durable.proofs.PartExits.{PartsKept}
 use Rattle.commit_durable.proofs.parts.parts_read.Given as goal
 
 abbrev pub invariant-loop-seen : goal.invariant-loop-seen
 invariant-loop-seen l = PartsKept l.job l.from l.n l.initial.parts l.parts l.seen l.p
-
-abbrev pub decreases-loop-seen : goal.decreases-loop-seen
-decreases-loop-seen l = l.n - l.seen

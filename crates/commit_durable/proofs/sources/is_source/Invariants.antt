@@ -3,8 +3,5 @@
 use Rattle.commit_durable.proofs.SourceExits.{IdsLeft}
 use Rattle.commit_durable.proofs.sources.is_source.Given as goal
 
-abbrev pub invariant-loop-left : goal.invariant-loop-left
-invariant-loop-left l = IdsLeft l.job l.from l.n l.id l.left l.at
-
-abbrev pub decreases-loop-left : goal.decreases-loop-left
-decreases-loop-left l = l.left
+abbrev pub invariant-loop-i : goal.invariant-loop-i
+invariant-loop-i l = IdsLeft l.job l.from l.n l.id l.i
