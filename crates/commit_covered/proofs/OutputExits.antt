@@ -1,15 +1,15 @@
--- The exits of `clear`, `keep_part` and `keep_outputs`.
+-- The exits of `keep_part` and `keep_outputs`.
 -- Assumes nothing.
-use Prim.Native.Nat.{ℕ, zero, ◌+◌, ◌-◌, ◌*◌, ◌^◌, ◌≤◌, ◌<◌}
+use Prim.Native.Nat.{ℕ, ◌+◌, ◌*◌, ◌^◌, ◌≤◌, ◌<◌}
 use native.Mathlib.Omega.{arith}
 use native.Mathlib.Numerals.{add-one}
 use mathlib.Core.Path.{◌≡◌, refl, sym, ap, ◌∙◌}
-use mathlib.Core.Bool.{Bool, true, false}
+use mathlib.Core.Bool.{false}
 use mathlib.Core.List.{List, [], ◌∷◌, ◌++◌, flat_map, append_assoc, append-nil}
-use lib.Dec.{T, eqb}
-use lib.ListN.{length, get_or, take, drop, set, length-set, length-append, take-append-drop}
-use lib.Seq.{length-take-le, drop-drop, drop_at, drop-cons, take_all, get_or-set_same, get_or-set_other}
-use borrow.Author.Tests.{eqb-true, eqb-false}
+use lib.Dec.{T}
+use Rattle.std.proofs.lemmas.List.{get_or-replicate, length-replicate}
+use lib.ListN.{replicate, length, get_or, take, drop, set, length-set, length-append, take-append-drop}
+use lib.Seq.{length-take-le, drop-drop, drop_at, drop-cons, take_all}
 use mir.Val.{Fits}
 use mir.Syntax.{w64}
 use Rattle.base.specs.Lists.{flat_map_append}
@@ -32,31 +32,6 @@ use Rattle.commit_gaps.proofs.Places.{drop_inside, take_more}
 use Rattle.commit_covered.specs.Kept.{entry_of, newest, latest, none_kept, IdsKept, Room, Cleared, OutputsHere, SomeKept, MoreKept, AllKept}
 use Rattle.commit_covered.proofs.Chains.{row_put, kept_more}
 use Rattle.commit_covered.proofs.Sizes.{few_outputs}
-
--- ---- clear
-pub record Clearing (slots₀ slots : List ℕ) (i : ℕ) : Type 0 where
-  pub upto : i ≤ length slots
-  pub same : length slots ≡ length slots₀
-  pub zeros : (e : ℕ) → e < i → get_or slots e 0 ≡ 0
-
-pub clear_begin : (slots : List ℕ) → Clearing slots slots 0
-clear_begin slots = record { upto = omega arith; same = refl; zeros = λ e h. absurd (omega arith) }
-
-module _ {slots₀ slots : List ℕ} {i : ℕ} (p : Clearing slots₀ slots i) where
-  pub clear_turn : i < length slots → Clearing slots₀ (set slots i 0) (i + 1)
-  clear_turn h = record { upto = rw length-set (omega arith); same = length-set slots i 0 ∙ p.same; zeros = λ e k. go e k (eqb e i) refl }
-    where
-      go : (e : ℕ) → e < i + 1 → (b : Bool) → eqb e i ≡ b → get_or (set slots i 0) e 0 ≡ 0
-      go e k true q = rw (eqb-true e i q) (get_or-set_same slots i 0 0 h)
-      go e k false q = get_or-set_other slots i e 0 0 (eqb-false e i q) ∙ p.zeros e (omega (arith, eqb-false e i q))
-
-  pub clear_end : length slots ≤ i → Cleared slots₀ slots
-  clear_end h = record { same_length = p.same; zero = λ e k. p.zeros e (omega (arith, p.same)) }
-
-pub clear_less : (slots : List ℕ) (i : ℕ) → i < length slots → length (set slots i 0) - (i + 1) < length slots - i
-clear_less slots i h = rw length-set (omega arith)
-
-pub ruleset clear_exits = (clear_begin, clear_less, clear_turn, clear_end)
 
 -- ---- keep_part
 entry_alike : (n : ℕ) (x y : TableId) → x.0 ≡ y.0 → entry_of n x ≡ entry_of n y
@@ -146,6 +121,9 @@ module _ {s : List ℕ} {first m k : ℕ} {chain₀ slots₀ chain slots : List 
 pub ruleset part_exits = (keeping, keeping_all, keeping_here, keeping_fits, keeping_room, keeping_inside, keeping_on)
 
 -- ---- keep_outputs
+pub cleared : {slots₀ slots : List ℕ} → slots ≡ replicate (length slots₀) 0 → Cleared slots₀ slots
+cleared {slots₀} e = rw e (record { same_length = length-replicate (length slots₀) 0; zero = λ i h. get_or-replicate (length slots₀) i 0 0 h })
+
 pub none_kept_yet : {slots₀ slots : List ℕ} (s chain : List ℕ) → Cleared slots₀ slots → 0 < length slots₀ → SomeKept s 0 chain slots
 unfolding newest latest
 none_kept_yet {slots₀} {slots} s chain c h =
@@ -257,4 +235,4 @@ module _ {s parts : List ℕ} {n : ℕ} {chain₀ slots₀ chain slots : List �
       pub kept_fits : {chain' slots' : List ℕ} → MoreKept s (k + r.outputs) chain slots chain' slots' → length s < 2 ^ 64 → Fits w64 (k + r.outputs)
       kept_fits w l = omega (arith, w.kept.upto, few_outputs s)
 
-pub ruleset outputs_exits = (parts_begin, parts_slots, parts_all, part_room, part_outputs, parts_on, kept_fits)
+pub ruleset outputs_exits = (cleared, parts_begin, parts_slots, parts_all, part_room, part_outputs, parts_on, kept_fits)

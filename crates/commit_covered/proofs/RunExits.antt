@@ -49,9 +49,6 @@ module _ {given s index gap_table : List ℕ} {h : CoverHead} {k : ℕ} (x : Run
       sym (x.same ∙ ap (λ (i : Image). covered_by (job_gaps s) i (job_of s)) d ∙ covered_none (job_gaps s) (job_of s))
 
   module _ (l : k < h.runs) where
-    pub runs_next : Fits w64 (k + 1)
-    runs_next = omega (arith, x.ready.runs.most)
-
     module _ {y : IndexedRun} (f : IndexedFound given k y) where
       views_are : values_of (read_many view.read y.views (drop y.first given)) ≡ f.run.views
       views_are = ap values_of f.held.views_are
@@ -89,4 +86,4 @@ module _ {given s index gap_table : List ℕ} {h : CoverHead} {k : ℕ} (x : Run
         pub runs_onward : b ≡ true → RunsSeen given s index gap_table h (k + 1)
         runs_onward z = record { ready = x.ready; same = here ∙ rw (eq-eqb y.id h.destination e, run_is, z) }
 
-pub ruleset runs_exits = (runs_begin, runs_all, runs_next, runs_views, runs_other, runs_left, runs_onward)
+pub ruleset runs_exits = (runs_begin, runs_all, runs_views, runs_other, runs_left, runs_onward)

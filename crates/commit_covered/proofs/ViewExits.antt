@@ -6,6 +6,7 @@ use mathlib.Core.Path.{◌≡◌, refl, sym, ap, ◌∙◌}
 use mathlib.Core.Bool.{Bool, true, false, not, ◌&&◌, ◌||◌}
 use mathlib.Core.List.{List, [], ◌∷◌, ◌++◌}
 use lib.Dec.{T}
+use Rattle.std.proofs.lemmas.Bool.{not-true, not-false}
 use lib.ListN.{take, drop, drop_of_length-le}
 use lib.Seq.{drop-drop, drop_at}
 use Rattle.base.specs.Lists.{All, All-map, All-of}
@@ -152,10 +153,10 @@ module _ {s : List ℕ} {first n : ℕ} {job : List ℕ} {m g seen at : ℕ} (p 
         unfolding is_output
         output_is = sym (i ∙ among_id x (view_in s v).table e (outputs (job_of job).parts))
 
-        pub seen_other : q ≡ false → ViewsSeen s first n job m g (seen + 1) v.past
-        seen_other z = onward p.upto behind_here.1 (rw (output_is, z))
+        pub seen_other : not q ≡ true → ViewsSeen s first n job m g (seen + 1) v.past
+        seen_other z = onward p.upto behind_here.1 (rw (output_is, not-true q z))
 
-        module _ (z : q ≡ true) {r : RangeSpan} (w : EffectiveFound s v r) {d : ℕ} (y : Reached (bound_in s r.start) job m d) {o : NextPiece} (u : NextFound job (range_in s r.start r.end) m d o) where
+        module _ (z : not q ≡ false) {r : RangeSpan} (w : EffectiveFound s v r) {d : ℕ} (y : Reached (bound_in s r.start) job m d) {o : NextPiece} (u : NextFound job (range_in s r.start r.end) m d o) where
           left_is : covered_in (job_gaps job) (view_in s v) ≡ nothing_left (pieces (drop d (job_gaps job)) (range_in s r.start r.end))
           unfolding covered_in
           left_is = rw (← w.meaning) (ap nothing_left (reached_pieces (range_in s r.start r.end) y))
@@ -163,7 +164,7 @@ module _ {s : List ℕ} {first n : ℕ} {job : List ℕ} {m g seen at : ℕ} (p 
           pub seen_left : {k next : ℕ} {b : RangeSpan} {c : Piece} → o ≡ At k next b c → false ≡ views_covered (job_gaps job) (job_of job).parts (values_of (read_many view.read n (drop first s)))
           seen_left a =
               let c : covered_in (job_gaps job) (view_in s v) ≡ false = left_is ∙ rw (next_piece (rw a at u)).pieces_are in
-              sym (p.same ∙ ap (views_covered (job_gaps job) (job_of job).parts) next_is ∙ covered_cons (job_gaps job) (job_of job).parts (view_in s v) (drop (seen + 1) (views_at s first n)) ∙ rw (output_is, z, c))
+              sym (p.same ∙ ap (views_covered (job_gaps job) (job_of job).parts) next_is ∙ covered_cons (job_gaps job) (job_of job).parts (view_in s v) (drop (seen + 1) (views_at s first n)) ∙ rw (output_is, not-false q z, c))
 
           later : All (λ b. start (view_in s v) ≼ start b) (drop (seen + 1) (views_at s first n))
           later = pairs_at (λ a b. start a ≼ start b) seen (views_at s first n) (sorted (views_at s first n) p.here.order) next_is
@@ -173,6 +174,6 @@ module _ {s : List ℕ} {first n : ℕ} {job : List ℕ} {m g seen at : ℕ} (p 
               let c : covered_in (job_gaps job) (view_in s v) ≡ true = left_is ∙ rw (next_none (rw a at u)).none_left in
               onward y.upto
               (All-map (λ k l. behind_later (effective (view_in s v)).start (effective k).start (take d (job_gaps job)) l (rw (start_is w) at y.behind)) (drop (seen + 1) (views_at s first n)) later)
-              (rw (output_is, z, c))
+              (rw (output_is, not-false q z, c))
 
 pub ruleset view_exits = (seen_none, seen_all, seen_here, shown_inside, shown_held, shown_behind, seen_other, seen_left, seen_covered)

@@ -31,28 +31,18 @@ pub fn views_covered<'a>(
     ensures { result ≡ views_covered (job_gaps job.now) (job_of job.now).parts (values_of (read_many view.read n (drop first image.now))) }
 {
     let mut g = 0;
-    let mut seen = 0;
     let mut at = first;
-    while seen < n {
+    for _ in 0..n {
         let v = records::view_there(image, at);
         at = v.past;
-        seen += 1;
-        if is_kept(job, chain, slots, records::table_id_at(image, v.table.id)) {
-            let shown = manifest::effective(image, v);
-            let reached = commit_gaps::first_gap(image, shown.start, job, gaps, m, g);
-            match commit_gaps::next_piece(image, shown, job, gaps, m, reached) {
-                NextPiece::At {
-                    gap: _,
-                    next: _,
-                    bounds: _,
-                    piece: _,
-                } => {
-                    return false;
-                }
-                NextPiece::None => {
-                    g = reached;
-                }
-            }
+        if !is_kept(job, chain, slots, records::table_id_at(image, v.table.id)) {
+            continue;
+        }
+        let shown = manifest::effective(image, v);
+        let reached = commit_gaps::first_gap(image, shown.start, job, gaps, m, g);
+        match commit_gaps::next_piece(image, shown, job, gaps, m, reached) {
+            NextPiece::At { .. } => return false,
+            NextPiece::None => g = reached,
         }
     }
     true

@@ -12,9 +12,8 @@ fn entry(id: TableId, n: usize) -> usize
     requires { 0 < n }
     ensures { (result ≡ entry_of n id) × (result < n) }
 {
-    let bytes = id.0;
-    let head = key::word(&bytes, 0);
-    let tail = key::word(&bytes, 8);
+    let head = key::word(&id.0, 0);
+    let tail = key::word(&id.0, 8);
     (head % 8161 + tail % 8147) as usize % n
 }
 
@@ -26,10 +25,9 @@ pub fn keep(id: TableId, place: usize, k: usize, chain: &mut [usize], slots: &mu
     ensures slots_after { slots.new ≡ set slots.old (entry_of (length slots.old) id) (k + 1) }
 {
     let e = entry(id, slots.len());
-    let before = slots[e];
     let row = k * 2;
     chain[row] = place;
-    chain[row + 1] = before;
+    chain[row + 1] = slots[e];
     slots[e] = k + 1;
 }
 

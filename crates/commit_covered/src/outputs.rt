@@ -2,19 +2,9 @@
 ghost use Rattle.std.specs.Prelude.{◌+◌, ◌<◌, length};
 ghost use Rattle.incremental_progress.specs.Jobs.{outputs};
 ghost use Rattle.commit_durable.specs.Tables.{PartsHold};
-ghost use Rattle.commit_covered.specs.Kept.{Room, Cleared, OutputsHere, SomeKept, MoreKept, AllKept};
+ghost use Rattle.commit_covered.specs.Kept.{Room, OutputsHere, SomeKept, MoreKept, AllKept};
 
 use crate::ids::keep;
-
-fn clear(slots: &mut [usize])
-    ensures { Cleared slots.old slots.new }
-{
-    let mut i = 0;
-    while i < slots.len() {
-        slots[i] = 0;
-        i += 1;
-    }
-}
 
 // Keeps the m outputs of one part, the first of which is output k.
 fn keep_part(job: &[u8], first: usize, m: usize, k: usize, chain: &mut [usize], slots: &mut [usize])
@@ -23,20 +13,12 @@ fn keep_part(job: &[u8], first: usize, m: usize, k: usize, chain: &mut [usize], 
     requires fact_3 { SomeKept job.now k chain.old slots.old }
     ensures { MoreKept job.now (k + m) chain.old slots.old chain.new slots.new }
 {
-    let mut seen = 0;
     let mut at = first;
-    while seen < m {
+    for seen in 0..m {
         let t = records::table_there(job, at);
-        let place = t.id;
-        keep(
-            records::table_id_at(job, place),
-            place,
-            k + seen,
-            chain,
-            slots,
-        );
+        let id = records::table_id_at(job, t.id);
+        keep(id, t.id, k + seen, chain, slots);
         at = t.past;
-        seen += 1;
     }
 }
 
@@ -47,14 +29,11 @@ pub fn keep_outputs(job: &[u8], parts: &[usize], n: usize, chain: &mut [usize], 
     requires fact_3 { 0 < length slots.old }
     ensures { AllKept job.now chain.old slots.old chain.new slots.new }
 {
-    clear(slots);
+    slots.fill(0);
     let mut k = 0;
-    let mut i = 0;
-    while i < n {
+    for i in 0..n {
         let p = commit_rows::part_row(parts, i);
-        let m = p.outputs;
-        keep_part(job, p.first, m, k, chain, slots);
-        k += m;
-        i += 1;
+        keep_part(job, p.first, p.outputs, k, chain, slots);
+        k += p.outputs;
     }
 }

@@ -38,16 +38,13 @@ pub fn image_covered<'a>(
     ensures chain_len_unchanged_2 { length slots.new ≡ length slots.old }
 {
     keep_outputs(job, parts, head.parts, chain, slots);
-    let mut k = 0;
-    while k < head.runs {
+    for k in 0..head.runs {
         let run = commit_index::indexed_run(image, index, head.runs, k);
-        k += 1;
-        if run.id == head.destination {
-            if views_covered(
+        if run.id == head.destination
+            && !views_covered(
                 image, run.first, run.views, job, gaps, head.gaps, chain, slots,
-            ) {
-                continue;
-            }
+            )
+        {
             return false;
         }
     }

@@ -38,9 +38,11 @@ fn some_inside(job: &[u8], t: TableSpan, h: PartSpan) -> bool
         start: manifest::own_start(t),
         end: manifest::own_end(t),
     };
-    let start = h.start;
-    let end = h.end;
-    format::span::meets(job, own, job, RangeSpan { start, end })
+    let held = RangeSpan {
+        start: h.start,
+        end: h.end,
+    };
+    format::span::meets(job, own, job, held)
 }
 
 // Whether an output's last key is the key of a bound.
@@ -64,31 +66,26 @@ fn published_as(job: &[u8], t: TableSpan, h: PartSpan) -> Published
     requires fact_2 { IntervalHeld job.now h }
     ensures { result ≡ published_as (open_in job.now h) (interval_in job.now h.start h.end) (table_in job.now t) }
 {
-    if h.completed {
+    if h.completed || !ends_at(job, t, h.end) {
         return Published::Whole;
     }
-    if ends_at(job, t, h.end) {
-        if some_inside(job, t, h) {
-            return Published::Cut;
-        }
-        return Published::Left;
+    if some_inside(job, t, h) {
+        return Published::Cut;
     }
-    Published::Whole
+    Published::Left
 }
 
 // The row of an output that stands from one place to another. The bounds of one that is published whole are not read.
 fn output_row(form: Form, h: PartSpan, bucket: usize, at: usize, past: usize) -> Row
     ensures { result ≡ output_row form h bucket at past }
 {
-    let start = h.start;
-    let end = h.end;
     Row {
         form,
         bucket,
         at,
         past,
-        start,
-        end,
+        start: h.start,
+        end: h.end,
         ten: 0,
     }
 }

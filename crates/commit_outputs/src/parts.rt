@@ -25,14 +25,12 @@ fn plan_part(
     requires fact_5 { PlanReady ids.now 549755813888 p }
     ensures { PlannedIn job.now ids.now (outputs_in job.now h) bucket p rows.old result rows.new }
 {
-    let mut seen = 0;
     let mut at = h.first;
     let mut plan = p;
-    while seen < h.outputs {
+    for _ in 0..h.outputs {
         let t = records::table_there(job, at);
         plan = plan_output(job, ids, rows, at, t, h, bucket, plan);
         at = t.past;
-        seen += 1;
     }
     plan
 }
@@ -44,7 +42,6 @@ pub fn plan_outputs(job: &[u8], ids: &[u8], parts: &[usize], n: usize, rows: &mu
     requires fact_3 { PartsHold job.now n parts.now }
     ensures { PlannedOutputs job.now ids.now rows.old result rows.new }
 {
-    let mut k = 0;
     let mut interval = 0;
     let mut plan = Plan {
         rows: 0,
@@ -53,15 +50,13 @@ pub fn plan_outputs(job: &[u8], ids: &[u8], parts: &[usize], n: usize, rows: &mu
         drawn: 0,
         enough: true,
     };
-    while k < n {
+    for k in 0..n {
         let h = commit_durable::part_at(job, parts, n, k);
-        if h.durable {
-            plan = plan_part(job, ids, rows, h, interval * 2 + 1, plan);
-            interval += 1;
-            k += 1;
-        } else {
-            k += 1;
+        if !h.durable {
+            continue;
         }
+        plan = plan_part(job, ids, rows, h, interval * 2 + 1, plan);
+        interval += 1;
     }
     plan
 }

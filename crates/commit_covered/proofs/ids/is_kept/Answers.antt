@@ -4,20 +4,8 @@ use Rattle.commit_covered.proofs.IdExits.{kept_exits}
 use borrow.Author.Rules.{rules}
 use Rattle.commit_covered.proofs.ids.is_kept.Goals as goal
 
-pub entry-e-requires : goal.entry-e-requires
-entry-e-requires c = search (rules, kept_exits)
-
-pub offset_bounds-slots-e : goal.offset_bounds-slots-e
-offset_bounds-slots-e c = search (rules, kept_exits)
-
-pub bounds-slots-e : goal.bounds-slots-e
-bounds-slots-e c = search (rules, kept_exits)
-
 pub loop-left-init : goal.loop-left-init
 loop-left-init c = search (rules, kept_exits)
-
-pub overflow_sub-row : goal.overflow_sub-row
-overflow_sub-row c = search (rules, kept_exits)
 
 pub overflow_mul-row : goal.overflow_mul-row
 overflow_mul-row c = search (rules, kept_exits)
@@ -27,21 +15,6 @@ offset_bounds-chain-row c = search (rules, kept_exits)
 
 pub bounds-chain-row : goal.bounds-chain-row
 bounds-chain-row c = search (rules, kept_exits)
-
-pub table_id_at-requires : goal.table_id_at-requires
-table_id_at-requires c = search (rules, kept_exits)
-
-pub slice_bounds-cmp-end : goal.slice_bounds-cmp-end
-slice_bounds-cmp-end c = search (rules, kept_exits)
-
-pub slice_bounds-cmp-end-in-loop-left : goal.slice_bounds-cmp-end-in-loop-left
-slice_bounds-cmp-end-in-loop-left c = search (rules, kept_exits)
-
-pub cmp-requires : goal.cmp-requires
-cmp-requires c = search (rules, kept_exits)
-
-pub is_equal-requires : goal.is_equal-requires
-is_equal-requires c = search (rules, kept_exits)
 
 pub returns-then-is_equal : goal.returns-then-is_equal
 returns-then-is_equal c = search (rules, kept_exits)
