@@ -44,7 +44,6 @@ fn line_len(s: &[u8], v: ViewSpan, id: u64, place: usize) -> usize
 }
 
 // The lines of n views of a run.
-#[tactic(auto, using(crate::proofs::Loops::views_len_exits))]
 fn views_len(s: &[u8], from: usize, n: usize, id: u64) -> Reached
     requires fact_1 { length s.now ≤ 65536 }
     requires fact_2 { from ≤ length s.now }
@@ -64,7 +63,6 @@ fn views_len(s: &[u8], from: usize, n: usize, id: u64) -> Reached
 }
 
 // The lines of n runs.
-#[tactic(auto, using(crate::proofs::Loops::runs_len_exits))]
 fn runs_len(s: &[u8], from: usize, n: usize) -> usize
     requires fact_1 { length s.now ≤ 65536 }
     requires fact_2 { from ≤ length s.now }

@@ -100,7 +100,6 @@ fn put_end(s: &[u8], b: BoundSpan, out: &mut [u8], at: usize) -> usize
 }
 
 // The run's id, the view's place and the table's id.
-#[tactic(auto, using(crate::proofs::LineExits::names_exits))]
 fn put_names(out: &mut [u8], at: usize, id: u64, place: usize, table: &[u8]) -> usize
     requires { at + length (names id place table.now) ≤ length out.old }
     ensures value { result ≡ at + length (names id place table.now) }
@@ -112,7 +111,6 @@ fn put_names(out: &mut [u8], at: usize, id: u64, place: usize, table: &[u8]) -> 
 }
 
 // The bounds of a range.
-#[tactic(auto, using(crate::proofs::LineExits::bounds_exits))]
 fn put_bounds(s: &[u8], start: BoundSpan, end: BoundSpan, out: &mut [u8], at: usize) -> usize
     requires bound_inside_1 { BoundInside s.now start }
     requires bound_inside_2 { BoundInside s.now end }
@@ -125,7 +123,6 @@ fn put_bounds(s: &[u8], start: BoundSpan, end: BoundSpan, out: &mut [u8], at: us
 }
 
 // The line of a view.
-#[tactic(auto, using(crate::proofs::LineExits::line_put_exits))]
 fn put_line(s: &[u8], v: ViewSpan, id: u64, place: usize, out: &mut [u8], at: usize) -> usize
     requires fact_1 { ViewInside s.now v }
     requires fact_2 { at + length (line id place (view_in s.now v)) ≤ length out.old }
@@ -140,7 +137,6 @@ fn put_line(s: &[u8], v: ViewSpan, id: u64, place: usize, out: &mut [u8], at: us
 
 // The lines of n views of a run. The same walk as `views_len`, which adds where this writes: one walk for both would need a
 // trait with two contracts, and is no plainer.
-#[tactic(auto, using(crate::proofs::Loops::views_put_exits))]
 fn put_views(s: &[u8], from: usize, n: usize, id: u64, out: &mut [u8], first: usize) -> Reached
     requires from_in_bounds_1 { from ≤ length s.now }
     requires from_in_bounds_2 { T (is_got (read_many view.read n (drop from s.now))) }
@@ -159,7 +155,6 @@ fn put_views(s: &[u8], from: usize, n: usize, id: u64, out: &mut [u8], first: us
 }
 
 // The lines of n runs, the same walk as `runs_len`: two for the same reason.
-#[tactic(auto, using(crate::proofs::Loops::runs_put_exits))]
 fn put_runs(s: &[u8], from: usize, n: usize, out: &mut [u8], first: usize)
     requires from_in_bounds_1 { from ≤ length s.now }
     requires from_in_bounds_2 { T (is_got (read_many run.read n (drop from s.now))) }
@@ -184,7 +179,6 @@ fn put_header(out: &mut [u8])
 }
 
 // The listing of an image that is there, at the front of a buffer.
-#[tactic(auto, using(crate::proofs::WholeListing::listing_put_exits))]
 pub fn put_listing(s: &[u8], out: &mut [u8])
     requires fact_1 { T (is_got (image.read s.now)) }
     requires fact_2 { length (listing (values_of (image.read s.now))) ≤ length out.old }

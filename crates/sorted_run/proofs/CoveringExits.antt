@@ -1,7 +1,7 @@
 -- The places that cover the asked range, by the two counts: the last view that starts within its end intersects it, and the
 -- walk back begins past those that start at or below its start.
 -- Assumes nothing.
-use Prim.Native.Nat.{ℕ, zero, suc, ◌-◌, ◌<◌, ◌≤◌}
+use Prim.Native.Nat.{ℕ, zero, suc, ◌+◌, ◌-◌, ◌<◌, ◌≤◌}
 use native.Mathlib.Omega.{arith}
 use mathlib.Core.Path.{◌≡◌, refl, sym, ap, subst, ◌∙◌}
 use mathlib.Core.Bool.{Bool, true, false}
@@ -49,11 +49,11 @@ module _ (vs : List View) (asked : Range) where
   back_begin from n h = record { same = refl; inside = h }
 
 module _ {vs : List View} {asked : Range} {from idx n : ℕ} (p : Back vs asked from idx n) where
-  pub back_none : idx ≤ 0 → idx ≡ walk_back vs asked from
+  pub back_none : idx ≤ 0 → 0 ≡ walk_back vs asked from
   unfolding walk_back
   back_none h =
       let z : idx ≡ 0 = omega arith in
-      sym (p.same ∙ (ap (walk_back vs asked) z ∙ sym z))
+      sym (p.same ∙ ap (walk_back vs asked) z)
 
   pub back_place : 0 < idx → idx - 1 < n
   back_place h = omega (arith, p.inside)
@@ -70,9 +70,9 @@ module _ {vs : List View} {asked : Range} {from idx n : ℕ} (p : Back vs asked 
             let v : table_intersects vs asked k ≡ true = ap (table_intersects vs asked) (sym z) ∙ w in
             rw (z, v)
 
-    pub back_ends : t ≡ false → idx ≡ walk_back vs asked from
+    pub back_ends : t ≡ false → idx - 1 + 1 ≡ walk_back vs asked from
     unfolding walk_back
-    back_ends u = sym (p.same ∙ go idx h (sym e ∙ u))
+    back_ends u = let z : idx - 1 + 1 ≡ idx = omega arith in z ∙ sym (p.same ∙ go idx h (sym e ∙ u))
       where
         go : (k : ℕ) → 0 < k → table_intersects vs asked (k - 1) ≡ false → walk_back vs asked k ≡ k
         go zero h w = absurd (omega arith)

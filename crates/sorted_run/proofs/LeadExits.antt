@@ -37,18 +37,6 @@ use Rattle.sorted_run.specs.declared.views.EffectiveSpan.{EffectiveSpan}
 use Rattle.sorted_run.proofs.ViewExits.{start_inside}
 
 -- ---- up_to
-module _ (b : BoundSpan) where
-  pub up_to_none : b.kind ≡ Unbounded → record { kind = Excluded; at = b.at; len = 0 } ≡ up_to_span b
-  up_to_none e = rw e
-
-  pub up_to_included : b.kind ≡ Included → record { kind = Included; at = b.at; len = b.len } ≡ up_to_span b
-  up_to_included e = rw e
-
-  pub up_to_excluded_lem : b.kind ≡ Excluded → record { kind = Included; at = b.at; len = b.len } ≡ up_to_span b
-  up_to_excluded_lem e = rw e
-
-pub ruleset up_to_exits = (up_to_none, up_to_included, up_to_excluded_lem)
-
 pub up_to_is : (q : List ℕ) (b : BoundSpan) → bound_in q (up_to_span b) ≡ up_to (bound_in q b)
 up_to_is q b = go b.kind refl
   where

@@ -5,7 +5,7 @@ use Prim.Native.Nat.{ℕ, suc, ◌+◌, ◌<◌, ◌≤◌, ◌^◌}
 use native.Mathlib.Omega.{arith}
 use native.Mathlib.Numerals.{add-one}
 use mathlib.Core.Path.{◌≡◌, refl, sym, ap, ap₂, ◌∙◌}
-use mathlib.Core.Bool.{Bool, true, false}
+use mathlib.Core.Bool.{Bool, true}
 use mathlib.Core.Option.{Option, some}
 use mathlib.Core.List.{List}
 use lib.ListN.{length, drop, get_or}
@@ -33,7 +33,6 @@ use Rattle.db_state.specs.Lookup.{between, start_key, end_before, end_bound, tab
 use Rattle.sst_view.specs.Asked.{range_at, SpanInside}
 use Rattle.records.specs.There.{Past}
 use Rattle.sst_view.specs.Runs.{views_of, PlacesOf}
-use Rattle.sst_view.specs.Views.{key_at, end_span}
 use Rattle.sst_view.proofs.Past.{past_more, past_here, value_here, none_past}
 use Rattle.sst_view.proofs.RunViews.{start_key_lem}
 use Rattle.db_state.proofs.RunLookups.{at_passes}
@@ -79,27 +78,6 @@ module _ {s : List ℕ} {g : Got View} {e : EffectiveSpan} (x : EffectiveThere s
 -- ---- a view and an end bound
 met_once : (v : View) (end : Bound) (asked : Range) → table_passes v ≡ true → intersects_range v end asked ≡ meets (intersect_sides (between (effective v).start end) asked)
 met_once v end asked h = intersects_range_by_cuts v end asked h ∙ sym (meets_by_cuts (between (effective v).start end) asked)
-
-end_in : (s : List ℕ) (held : Bool) (next : BoundSpan) → bound_in s (end_span held next) ≡ pick held (included (key_at s next)) (excluded (key_at s next))
-end_in s true next = refl
-end_in s false next = refl
-
--- ---- end_there
-module _ {s : List ℕ} {own : RangeSpan} {g : Got View} {n : EffectiveSpan} (y : EffectiveThere s g n) where
-  pub end_there : {b : BoundSpan} → b ≡ end_span (holds (range_at s own) (key_at s n.range.start)) n.range.start → EndThere s own g b
-  end_there {b} f =
-      record {
-        value = y.value;
-        rest = drop n.past s;
-        read = y.read;
-        meaning =
-            ap (bound_in s) f
-            ∙ (end_in s (holds (range_at s own) (key_at s n.range.start)) n.range.start
-            ∙ ap (λ k. pick (holds (range_at s own) k) (included k) (excluded k)) y.key);
-        inside = rw f y.inside.start;
-      }
-
-pub ruleset end_exits = (start_inside, end_there)
 
 pub next_end_inside : {s : List ℕ} {own : RangeSpan} {g : Got View} {b : BoundSpan} → EndThere s own g b → BoundInside s b
 next_end_inside y = y.inside

@@ -28,22 +28,15 @@ pub struct Leads {
 fn up_to(b: BoundSpan) -> BoundSpan
     ensures { result ≡ up_to_span b }
 {
-    let kind = b.kind;
-    match kind {
+    match b.kind {
         Kind::Unbounded => BoundSpan {
             kind: Kind::Excluded,
-            at: b.at,
             len: 0,
+            ..b
         },
-        Kind::Included => BoundSpan {
+        Kind::Included | Kind::Excluded => BoundSpan {
             kind: Kind::Included,
-            at: b.at,
-            len: b.len,
-        },
-        Kind::Excluded => BoundSpan {
-            kind: Kind::Included,
-            at: b.at,
-            len: b.len,
+            ..b
         },
     }
 }
@@ -65,12 +58,13 @@ fn one_more(
     if lead < seen {
         return lead;
     }
-    let kind = end.kind;
     let key = format::key_of(image, start);
-    if comparable_range::contains(Kind::Unbounded, key, kind, format::key_of(range, end), key) {
-        return lead + 1;
+    let last = format::key_of(range, end);
+    if comparable_range::contains(Kind::Unbounded, key, end.kind, last, key) {
+        lead + 1
+    } else {
+        lead
     }
-    lead
 }
 
 // Where the views of a run stand, put into a table; and how many lead.
@@ -88,18 +82,15 @@ fn put_places(
     requires fact_4 { 1024 ≤ length places.old }
     ensures { LeadsFound image.now r range.now from to places.new result }
 {
-    let mut seen = 0;
     let mut at = r.first;
     let mut start = 0;
     let mut end = 0;
-    while seen < r.views {
+    for seen in 0..r.views {
         places[seen] = at;
         let v = effective_there(image, at);
-        let own = v.range;
-        start = one_more(start, seen, image, own.start, range, from);
-        end = one_more(end, seen, image, own.start, range, to);
+        start = one_more(start, seen, image, v.range.start, range, from);
+        end = one_more(end, seen, image, v.range.start, range, to);
         at = v.past;
-        seen += 1;
     }
     Leads { start, end }
 }
@@ -118,15 +109,12 @@ fn walk_back<'a>(
     requires fact_3 { from ≤ r.views }
     ensures { result ≡ walk_back (views_of image.now r) (range_at range.now asked) from }
 {
-    let mut idx = from;
-    while 0 < idx {
-        if intersects_at(image, r, places, idx - 1, range, asked) {
-            idx -= 1;
-        } else {
-            return idx;
+    for idx in (0..from).rev() {
+        if !intersects_at(image, r, places, idx, range, asked) {
+            return idx + 1;
         }
     }
-    idx
+    0
 }
 
 // The places that cover the asked range. Of views that passed the checks, the last that starts within its end intersects it,
@@ -137,9 +125,8 @@ pub fn covered_in_run<'a>(image: &'a [u8], r: RunSpan, range: &'a [u8], asked: R
 {
     let mut places = [0usize; 1024];
     let n = put_places(image, r, range, up_to(asked.start), asked.end, &mut places);
-    let end = n.end;
-    if end == 0 {
+    if n.end == 0 {
         return Covered::Places(0, 0);
     }
-    Covered::Places(walk_back(image, r, &places, n.start, range, asked), end)
+    Covered::Places(walk_back(image, r, &places, n.start, range, asked), n.end)
 }

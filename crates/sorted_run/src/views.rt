@@ -40,9 +40,7 @@ fn end_there(image: &[u8], own: EffectiveSpan) -> BoundSpan
     ensures { EndThere image.now own.range (view.read (drop own.past image.now)) result }
 {
     let next = effective_there(image, own.past);
-    let a = own.range;
-    let b = next.range;
-    end_before(image, a, b.start)
+    end_before(image, own.range, next.range.start)
 }
 
 // Whether a run's span, from the first view's start to the last view's end, meets the asked range.
@@ -51,15 +49,19 @@ pub fn run_overlaps<'a>(image: &'a [u8], r: RunSpan, range: &'a [u8], asked: Ran
     requires fact_2 { SpanInside range.now asked }
     ensures { result ≡ overlaps_range (views_of image.now r) (range_at range.now asked) }
 {
-    let n = r.views;
-    if n == 0 {
+    if r.views == 0 {
         return false;
     }
     let first = effective_there(image, r.first);
-    let last = effective_there(image, records::views_end(image, r.first, n - 1));
-    let a = first.range;
-    let b = last.range;
-    intersects(image, a.start, image, b.end, range, asked)
+    let last = effective_there(image, records::views_end(image, r.first, r.views - 1));
+    intersects(
+        image,
+        first.range.start,
+        image,
+        last.range.end,
+        range,
+        asked,
+    )
 }
 
 // Whether the view at a place of a run intersects the asked range, up to the next view's start if there is one. Where the
@@ -78,15 +80,14 @@ pub fn intersects_at<'a>(
     ensures { result ≡ table_intersects (views_of image.now r) (range_at range.now asked) idx }
 {
     let own = effective_there(image, places[idx]);
-    let a = own.range;
-    if idx + 1 < r.views {
-        let end = end_there(image, own);
-        return intersects(image, a.start, image, end, range, asked);
-    }
-    let end = BoundSpan {
-        kind: Kind::Unbounded,
-        at: 0,
-        len: 0,
+    let end = if idx + 1 < r.views {
+        end_there(image, own)
+    } else {
+        BoundSpan {
+            kind: Kind::Unbounded,
+            at: 0,
+            len: 0,
+        }
     };
-    intersects(image, a.start, image, end, range, asked)
+    intersects(image, own.range.start, image, end, range, asked)
 }

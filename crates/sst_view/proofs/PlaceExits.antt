@@ -8,7 +8,6 @@ use lib.ListN.{length, drop}
 use lib.Dec.{T}
 use Rattle.base.specs.Outcome.{Outcome, answer}
 use Rattle.base.specs.Outcome as outcome
-use Rattle.format.specs.Got.{stop, and_then}
 use Rattle.format.specs.Whole.{whole}
 use Rattle.records.specs.Form.{read_many}
 use Rattle.records.specs.Found.{is_got, values_of}

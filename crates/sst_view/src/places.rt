@@ -18,12 +18,10 @@ fn runs_end(s: &[u8], from: usize, n: usize) -> usize
     requires fact_2 { T (is_got (read_many run.read n (drop from s.now))) }
     ensures { Past s.now (read_many run.read n (drop from s.now)) result }
 {
-    let mut seen = 0;
     let mut at = from;
-    while seen < n {
+    for _ in 0..n {
         let r = records::run_there(s, at);
         at = records::views_end(s, r.first, r.views);
-        seen += 1;
     }
     at
 }
@@ -47,6 +45,7 @@ pub fn run_in_image(s: &[u8], place: usize) -> RunPlaced
 }
 
 // The view at a place of a run.
+#[tactic(auto, using(crate::proofs::PlaceExits::in_run_exits))]
 fn view_in_run(s: &[u8], r: RunSpan, place: usize) -> ViewRead
     requires { RunInside s.now r }
     ensures { ViewPlaced s.now (placed (at (views_of s.now r) place)) result }
@@ -58,6 +57,7 @@ fn view_in_run(s: &[u8], r: RunSpan, place: usize) -> ViewRead
 }
 
 // The view at places of an image that is there.
+#[tactic(auto, using(crate::proofs::PlaceExits::view_exits))]
 pub fn view_in_image(s: &[u8], run_place: usize, place: usize) -> ViewRead
     requires { T (is_got (image.read s.now)) }
     ensures { ViewPlaced s.now (view_at (values_of (image.read s.now)) run_place place) result }
@@ -69,6 +69,7 @@ pub fn view_in_image(s: &[u8], run_place: usize, place: usize) -> ViewRead
 }
 
 // The view at places of an image that is the whole of a buffer.
+#[tactic(auto, using(crate::proofs::PlaceExits::given_exits))]
 pub fn view_given(s: &[u8], run_place: usize, place: usize) -> ViewRead
     ensures { ViewPlaced s.now (view_given s.now run_place place) result }
 {

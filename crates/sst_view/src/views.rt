@@ -44,25 +44,23 @@ pub fn intersects<'a>(
     requires fact_3 { SpanInside range.now asked }
     ensures { result ≡ meets (intersect_sides (between (bound_in image.now start) (bound_in e.now end)) (range_at range.now asked)) }
 {
-    let a = asked.start;
-    let b = asked.end;
-    let s = format::span::greater_start(image, start, range, a);
-    let f = format::span::lesser_end(e, end, range, b);
+    let s = format::span::greater_start(image, start, range, asked.start);
+    let f = format::span::lesser_end(e, end, range, asked.end);
     format::span::passes(
         slice_of(s, image, range),
-        bound_of(s, start, a),
+        bound_of(s, start, asked.start),
         slice_of(f, e, range),
-        bound_of(f, end, b),
+        bound_of(f, end, asked.end),
     )
 }
 
 // Where the view at a place starts.
+#[tactic(auto, using(crate::proofs::RunViews::start_exits))]
 pub fn start_at(image: &[u8], at: usize) -> BoundSpan
     requires { T (is_got (view.read (drop at image.now))) }
     ensures { StartThere image.now (view.read (drop at image.now)) result }
 {
-    let own = effective(image, records::view_there(image, at));
-    own.start
+    effective(image, records::view_there(image, at)).start
 }
 
 // The end of a view whose effective range is given, before a view that starts at a bound: included if it holds that key.
@@ -71,29 +69,24 @@ pub fn end_before(image: &[u8], own: RangeSpan, next: BoundSpan) -> BoundSpan
     requires fact_2 { BoundInside image.now next }
     ensures { result ≡ end_span (holds (range_at image.now own) (key_at image.now next)) next }
 {
-    if format::span::holds(image, own, format::key_of(image, next)) {
-        return BoundSpan {
-            kind: Kind::Included,
-            at: next.at,
-            len: next.len,
-        };
-    }
-    BoundSpan {
-        kind: Kind::Excluded,
-        at: next.at,
-        len: next.len,
-    }
+    let kind = if format::span::holds(image, own, format::key_of(image, next)) {
+        Kind::Included
+    } else {
+        Kind::Excluded
+    };
+    BoundSpan { kind, ..next }
 }
 
 // A range that one of two slices supplies.
 fn from(side: Side, r: RangeSpan) -> JointSpan
     ensures { result ≡ from_span side r }
 {
-    let start = r.start;
-    let end = r.end;
     JointSpan {
-        start: Supplied { side, bound: start },
-        end: Supplied { side, bound: end },
+        start: Supplied {
+            side,
+            bound: r.start,
+        },
+        end: Supplied { side, bound: r.end },
     }
 }
 
@@ -101,9 +94,10 @@ fn from(side: Side, r: RangeSpan) -> JointSpan
 fn visible(v: ViewSpan) -> RangeSpan
     ensures { result ≡ visible_span v }
 {
-    let start = v.start;
-    let end = v.end;
-    RangeSpan { start, end }
+    RangeSpan {
+        start: v.start,
+        end: v.end,
+    }
 }
 
 // An intersection, as a call answers it.
@@ -112,11 +106,7 @@ fn joined(m: Met) -> Joined
 {
     match m {
         Met::Nothing => Joined::Nothing,
-        Met::At(j) => {
-            let start = j.start;
-            let end = j.end;
-            Joined::Range(start, end)
-        }
+        Met::At(j) => Joined::Range(j.start, j.end),
     }
 }
 
@@ -142,16 +132,16 @@ fn cut_to_view<'a>(image: &'a [u8], v: ViewSpan, range: &'a [u8], asked: RangeSp
 {
     let given = from(Side::Second, asked);
     if v.shown {
-        return intersect_joint(image, range, given, from(Side::First, visible(v)));
+        intersect_joint(image, range, given, from(Side::First, visible(v)))
+    } else if v.table.flagged {
+        intersect_joint(image, range, given, from(Side::First, effective(image, v)))
+    } else {
+        Met::At(given)
     }
-    let t = v.table;
-    if t.flagged {
-        return intersect_joint(image, range, given, from(Side::First, effective(image, v)));
-    }
-    Met::At(given)
 }
 
 // The part of an asked range that a view shows.
+#[tactic(auto, using(crate::proofs::AskedExits::given_exits, crate::proofs::ViewCalls::calculate_exits))]
 pub fn calculate_view_range<'a>(image: &'a [u8], run: usize, view: usize, range: &'a [u8]) -> Joined
     ensures { JointFound image.now range.now (calculate_view_range_outcome image.now run view range.now) result }
 {
@@ -171,13 +161,8 @@ fn cut_to_visible<'a>(image: &'a [u8], v: ViewSpan, range: &'a [u8], m: Met) -> 
     ensures { MetFound image.now range.now (cut_to_visible (view_in image.now v).visible (met_in image.now range.now m)) result }
 {
     match m {
-        Met::Nothing => Met::Nothing,
-        Met::At(j) => {
-            if v.shown {
-                return intersect_joint(image, range, j, from(Side::First, visible(v)));
-            }
-            Met::At(j)
-        }
+        Met::At(j) if v.shown => intersect_joint(image, range, j, from(Side::First, visible(v))),
+        Met::At(_) | Met::Nothing => m,
     }
 }
 
@@ -196,9 +181,11 @@ fn cut_to_next<'a>(
     requires fact_4 { SpanInside range.now asked }
     ensures { MetFound image.now range.now (cut_before (view_in image.now v) (key_at image.now next) (range_at range.now asked)) result }
 {
-    let start = own.start;
-    let end = end_before(image, own, next);
-    let m = intersect_asked(image, RangeSpan { start, end }, range, asked);
+    let before = RangeSpan {
+        start: own.start,
+        end: end_before(image, own, next),
+    };
+    let m = intersect_asked(image, before, range, asked);
     cut_to_visible(image, v, range, m)
 }
 
@@ -218,13 +205,14 @@ fn view_kept<'a>(
     let v = records::view_there(image, records::views_end(image, r.first, place));
     let own = effective(image, v);
     if place + 1 < r.views {
-        let next = start_at(image, v.past);
-        return cut_to_next(image, v, own, next, range, asked);
+        cut_to_next(image, v, own, start_at(image, v.past), range, asked)
+    } else {
+        intersect_asked(image, own, range, asked)
     }
-    intersect_asked(image, own, range, asked)
 }
 
 // The same where there may be no view at the place.
+#[tactic(auto, using(crate::proofs::KeptExits::in_run_kept))]
 fn kept_in_run<'a>(
     image: &'a [u8],
     r: RunSpan,
@@ -243,6 +231,7 @@ fn kept_in_run<'a>(
 }
 
 // The part of the asked range that a view keeps.
+#[tactic(auto, using(crate::proofs::AskedExits::given_exits, crate::proofs::KeptExits::compacted_exits))]
 pub fn compacted_intersection<'a>(
     image: &'a [u8],
     run: usize,
@@ -276,8 +265,7 @@ fn view_intersects<'a>(
     ensures { result ≡ intersects_range (view_in image.now v) (bound_in e.now end) (range_at range.now asked) }
 {
     let own = effective(image, v);
-    let start = own.start;
-    intersects(image, start, e, end, range, asked)
+    intersects(image, own.start, e, end, range, asked)
 }
 
 // Whether a view intersects the asked range, up to an end bound that is given by its kind and its key.

@@ -37,15 +37,14 @@ fn view_fraction(image: &[u8], v: ViewSpan) -> VisibleFraction
     requires { ViewInside image.now v }
     ensures { FractionFound (visible_fraction (view_in image.now v)) result }
 {
-    let t = v.table;
-    if t.flagged {
-        let physical = RangeSpan {
-            start: manifest::own_start(t),
-            end: manifest::own_end(t),
-        };
-        return ranges_fraction(image, physical, effective(image, v));
+    if !v.table.flagged {
+        return VisibleFraction::Whole;
     }
-    VisibleFraction::Whole
+    let physical = RangeSpan {
+        start: manifest::own_start(v.table),
+        end: manifest::own_end(v.table),
+    };
+    ranges_fraction(image, physical, effective(image, v))
 }
 
 // Of a view whose table passes check 7.
@@ -54,12 +53,12 @@ fn view_size(image: &[u8], v: ViewSpan) -> u64
     requires fact_2 { size_passes (view_in image.now v).table ≡ true }
     ensures { ViewSized (view_in image.now v) result }
 {
-    let t = v.table;
-    let raw = t.index_offset + t.index_len;
+    let raw = v.table.index_offset + v.table.index_len;
     if v.shown {
-        return visible_size(raw, view_fraction(image, v));
+        visible_size(raw, view_fraction(image, v))
+    } else {
+        raw
     }
-    raw
 }
 
 // The sum over the views of a run. At most 1,024 of at most 2^53 each: it does not wrap.
@@ -69,13 +68,11 @@ fn run_size(image: &[u8], r: RunSpan) -> u64
     ensures { result ≡ estimate_run_visible_size (views_of image.now r) }
 {
     let mut sum = 0;
-    let mut seen = 0;
     let mut at = r.first;
-    while seen < r.views {
+    for _ in 0..r.views {
         let v = records::view_there(image, at);
         sum += view_size(image, v);
         at = v.past;
-        seen += 1;
     }
     sum
 }

@@ -1,29 +1,8 @@
 -- `sorted_run::overlaps_range` meets its contract.
 -- Assumes nothing.
+use Rattle.std.proofs.Common.{rules}
 use Rattle.sorted_run.proofs.OverlapExits.{overlaps_range_exits}
-use borrow.Author.Rules.{rules}
 use Rattle.sorted_run.proofs.overlaps_range.Goals as goal
-
-pub image_and_range-requires : goal.image_and_range-requires
-image_and_range-requires c = search (rules, overlaps_range_exits)
-
-pub enum_known-k : goal.enum_known-k
-enum_known-k c = search (rules, overlaps_range_exits)
-
-pub enum_known-asked : goal.enum_known-asked
-enum_known-asked c = search (rules, overlaps_range_exits)
-
-pub run_in_image-requires : goal.run_in_image-requires
-run_in_image-requires c = search (rules, overlaps_range_exits)
-
-pub enum_known-k-in-Stop-run_in_image : goal.enum_known-k-in-Stop-run_in_image
-enum_known-k-in-Stop-run_in_image c = search (rules, overlaps_range_exits)
-
-pub enum_known-r : goal.enum_known-r
-enum_known-r c = search (rules, overlaps_range_exits)
-
-pub run_overlaps-requires : goal.run_overlaps-requires
-run_overlaps-requires c = search (rules, overlaps_range_exits)
 
 pub returns-in-Stop : goal.returns-in-Stop
 returns-in-Stop c = search (rules, overlaps_range_exits)

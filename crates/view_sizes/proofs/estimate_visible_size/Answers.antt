@@ -1,20 +1,11 @@
 -- `view_sizes::estimate_visible_size` meets its contract.
 -- Assumes nothing.
+use Rattle.std.proofs.Common.{rules}
 use Rattle.view_sizes.proofs.SizeExits.{call_exits}
-use borrow.Author.Rules.{rules}
 use Rattle.view_sizes.proofs.estimate_visible_size.Goals as goal
 
-pub view_given-requires : goal.view_given-requires
-view_given-requires c = search (rules, call_exits)
-
-pub enum_known-k : goal.enum_known-k
-enum_known-k c = search (rules, call_exits)
-
-pub enum_known-v : goal.enum_known-v
-enum_known-v c = search (rules, call_exits)
-
-pub view_size-requires : goal.view_size-requires
-view_size-requires c = search (rules, call_exits)
+pub view_size-requires-clause-fact_2 : goal.view_size-requires-clause-fact_2
+view_size-requires-clause-fact_2 c = search (rules, call_exits)
 
 pub returns-in-Stop : goal.returns-in-Stop
 returns-in-Stop c = search (rules, call_exits)

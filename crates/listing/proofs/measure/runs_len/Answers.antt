@@ -15,3 +15,9 @@ views_len-r-requires-clause-fact_4 c = search (rules, runs_len_exits)
 
 pub returns-clause-value : goal.returns-clause-value
 returns-clause-value c = search (rules, runs_len_exits)
+
+pub loop-init : goal.loop-init
+loop-init c = search (rules, runs_len_exits)
+
+pub loop-preserved : goal.loop-preserved
+loop-preserved c = search (rules, runs_len_exits)

@@ -9,3 +9,9 @@ view_there-v-requires c = search (rules, views_len_exits)
 
 pub returns-clause-reached_past : goal.returns-clause-reached_past
 returns-clause-reached_past c = search (rules, views_len_exits)
+
+pub loop-place-init : goal.loop-place-init
+loop-place-init c = search (rules, views_len_exits)
+
+pub loop-place-preserved : goal.loop-place-preserved
+loop-place-preserved c = search (rules, views_len_exits)

@@ -6,3 +6,9 @@ use Rattle.listing.proofs.write.put_listing.Goals as goal
 
 pub returns : goal.returns
 returns c = search (rules, listing_put_exits)
+
+pub put_header-requires : goal.put_header-requires
+put_header-requires c = search (rules, listing_put_exits)
+
+pub put_runs-requires-clause-s_in_bounds : goal.put_runs-requires-clause-s_in_bounds
+put_runs-requires-clause-s_in_bounds c = search (rules, listing_put_exits)

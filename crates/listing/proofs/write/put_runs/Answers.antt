@@ -15,3 +15,9 @@ put_views-r-requires-clause-s_in_bounds c = search (rules, runs_put_exits)
 
 pub returns : goal.returns
 returns c = search (rules, runs_put_exits)
+
+pub loop-init : goal.loop-init
+loop-init c = search (rules, runs_put_exits)
+
+pub loop-preserved : goal.loop-preserved
+loop-preserved c = search (rules, runs_put_exits)

@@ -15,3 +15,9 @@ returns-clause-reached_past c = search (rules, views_put_exits)
 
 pub returns-clause-out_after : goal.returns-clause-out_after
 returns-clause-out_after c = search (rules, views_put_exits)
+
+pub loop-place-init : goal.loop-place-init
+loop-place-init c = search (rules, views_put_exits)
+
+pub loop-place-preserved : goal.loop-place-preserved
+loop-place-preserved c = search (rules, views_put_exits)

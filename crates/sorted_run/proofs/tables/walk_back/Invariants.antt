@@ -7,6 +7,3 @@ use Rattle.sorted_run.proofs.tables.walk_back.Given as goal
 
 abbrev pub invariant-loop-idx : goal.invariant-loop-idx
 invariant-loop-idx l = Back (views_of l.image l.r) (range_at l.range l.asked) l.from l.idx l.r.views
-
-abbrev pub decreases-loop-idx : goal.decreases-loop-idx
-decreases-loop-idx l = l.idx

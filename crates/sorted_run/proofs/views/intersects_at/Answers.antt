@@ -1,32 +1,22 @@
 -- `sorted_run::views::intersects_at` meets its contract.
 -- Assumes nothing.
-use Rattle.sorted_run.proofs.ViewExits.{at_exits}
-use borrow.Author.Rules.{rules}
+use Rattle.std.proofs.Common.{rules}
+use Rattle.sorted_run.proofs.ViewExits.{at_exits, next_met, last_met}
+use Rattle.sorted_run.proofs.views.intersects_at.Goals.{then-idx-r, else-idx-r}
 use Rattle.sorted_run.proofs.views.intersects_at.Goals as goal
-
-pub offset_bounds-places-idx : goal.offset_bounds-places-idx
-offset_bounds-places-idx c = search (rules, at_exits)
-
-pub bounds-places-idx : goal.bounds-places-idx
-bounds-places-idx c = search (rules, at_exits)
 
 pub effective_there-own-requires : goal.effective_there-own-requires
 effective_there-own-requires c = search (rules, at_exits)
 
-pub overflow_add-idx : goal.overflow_add-idx
-overflow_add-idx c = search (rules, at_exits)
-
-pub end_there-end-requires : goal.end_there-end-requires
-end_there-end-requires c = search (rules, at_exits)
-
-pub intersects-requires : goal.intersects-requires
-intersects-requires c = search (rules, at_exits)
-
-pub returns-then-idx-r : goal.returns-then-idx-r
-returns-then-idx-r c = search (rules, at_exits)
-
-pub intersects-requires-2 : goal.intersects-requires-2
-intersects-requires-2 c = search (rules, at_exits)
+pub end_there-end-requires-clause-fact_2 : goal.end_there-end-requires-clause-fact_2
+end_there-end-requires-clause-fact_2 c = search (rules, at_exits)
 
 pub returns : goal.returns
-returns c = search (rules, at_exits)
+returns c =
+    let i = c.requires.fact_1 in
+    let p = c.requires.fact_2 in
+    let x = c.effective_there-own.ensures in
+    elim c.if-idx-r.branch [
+      | then-idx-r w ↦ next_met i p c.requires.fact_3 x w.if-idx-r.true w.end_there-end.ensures (rw w.end-is at c.intersects.ensures)
+      | else-idx-r w ↦ last_met i p c.requires.fact_3 x w.if-idx-r.false (rw w.end-is at c.intersects.ensures)
+    ]
