@@ -1,23 +1,21 @@
 -- The exits of the readers of ranges.
 -- Assumes nothing.
-use Prim.Native.Nat.{ℕ, ◌+◌, ◌-◌, ◌≤◌, ◌<◌}
+use Prim.Native.Nat.{ℕ, ◌+◌, ◌-◌, ◌/◌, ◌%◌, ◌≤◌, ◌<◌}
 use native.Mathlib.Nat.{add-zero, add-sub_cancel_left}
 use native.Mathlib.Numerals.{add-one}
-use mathlib.Core.Path.{◌≡◌, refl, sym, ◌∙◌, ap}
-use mathlib.Core.List.{List, [], ◌∷◌}
+use mathlib.Core.Path.{◌≡◌, refl, sym, ◌∙◌}
+use mathlib.Core.List.{List, []}
 use mathlib.Core.Bool.{Bool, true, false}
 use lib.ListN.{length, get_or, take, drop, drop_of_length-le}
 use lib.Seq.{drop-cons}
-use lib.Dec.{T, eqb, eqb→eq}
-use borrow.Author.Tests.{le-leb, lt-leb}
-use Rattle.base.specs.Table.{NoneOf, ruled}
+use borrow.Author.Tests.{le-leb, lt-leb, le-ltb, lt-ltb, eq-eqb, ne_eqb}
 use Rattle.comparable_range.specs.Range.{bound_of}
 use Rattle.comparable_range.specs.Factors.{is_keyed}
 use Rattle.comparable_range.specs.declared.Kind.{Kind}
 use Rattle.comparable_range.specs.declared.Kind.TheVariants.{Unbounded, Included, Excluded}
 use Rattle.format.specs.Got.{got, and_then}
 use Rattle.format.specs.Key.{read_key, KeyFound}
-use Rattle.format.specs.Range.{head_of, head_byte, read_bound, BoundFound, headed, read_range, RangeFound, RangeWhole}
+use Rattle.format.specs.Range.{kind_of, head_of, read_bound, BoundFound, headed, read_range, RangeFound, RangeWhole}
 use Rattle.format.specs.Whole.{whole}
 use Rattle.format.specs.declared.KeyRead.{KeyRead}
 use Rattle.format.specs.declared.KeyRead.TheVariants.{At as KeyAt, Stop as KeyStop}
@@ -29,52 +27,32 @@ use Rattle.format.specs.declared.range.BoundRead.TheVariants.{At as BoundAt, Sto
 use Rattle.format.specs.declared.range.RangeRead.{RangeRead}
 use Rattle.format.specs.declared.range.RangeRead.TheVariants.{At, Stop}
 
--- ---- a head byte that is none of the nine valid ones
-abbrev stopped : Head → Bool
-stopped (Kinds a b) = false
-stopped (HeadStop n) = eqb n 2
+-- ---- the head byte
+module _ (b : ℕ) where
+  pub kinds_named :
+      {j k : Kind}
+      → b / 64 < 3
+      → b / 16 % 4 < 3
+      → b % 16 ≡ 0
+      → j ≡ kind_of (b / 64)
+      → k ≡ kind_of (b / 16 % 4)
+      → Kinds j k ≡ head_of b
+  unfolding head_of
+  kinds_named h k z p q = rw (p, q, lt-ltb (b / 64) 3 h, lt-ltb (b / 16 % 4) 3 k, eq-eqb (b % 16) 0 z)
 
-stopped_is : (h : Head) → T (stopped h) → HeadStop 2 ≡ h
-stopped_is (Kinds a b) w = absurd w
-stopped_is (HeadStop n) w = ap HeadStop (sym (eqb→eq n 2 w))
+  pub bad_start_kind : 3 ≤ b / 64 → HeadStop 2 ≡ head_of b
+  unfolding head_of
+  bad_start_kind h = rw (le-ltb (b / 64) 3 h)
 
-abbrev valid : List ℕ
-valid = 160 ∷ 144 ∷ 128 ∷ 96 ∷ 80 ∷ 64 ∷ 32 ∷ 16 ∷ 0 ∷ []
+  pub bad_end_kind : b / 64 < 3 → 3 ≤ b / 16 % 4 → HeadStop 2 ≡ head_of b
+  unfolding head_of
+  bad_end_kind h k = rw (lt-ltb (b / 64) 3 h, le-ltb (b / 16 % 4) 3 k)
 
-pub other_head : (b : ℕ) → b < 256 → NoneOf b valid → HeadStop 2 ≡ head_of b
-unfolding head_of
-other_head b h r = stopped_is (head_of b) (ruled (λ b. stopped (head_of b)) valid 256 tt b h r)
+  pub bad_padding : b / 64 < 3 → b / 16 % 4 < 3 → (b % 16 ≡ 0 → ⊥) → HeadStop 2 ≡ head_of b
+  unfolding head_of
+  bad_padding h k z = rw (lt-ltb (b / 64) 3 h, lt-ltb (b / 16 % 4) 3 k, ne_eqb (b % 16) 0 z)
 
--- ---- the head byte of each pair of kinds
-module _ (j k : Kind) where
-  pub free_free : j ≡ Unbounded → k ≡ Unbounded → 0 ≡ head_byte j k
-  free_free h l = rw (h, l)
-
-  pub free_in : j ≡ Unbounded → k ≡ Included → 16 ≡ head_byte j k
-  free_in h l = rw (h, l)
-
-  pub free_ex : j ≡ Unbounded → k ≡ Excluded → 32 ≡ head_byte j k
-  free_ex h l = rw (h, l)
-
-  pub in_free : j ≡ Included → k ≡ Unbounded → 64 ≡ head_byte j k
-  in_free h l = rw (h, l)
-
-  pub in_in : j ≡ Included → k ≡ Included → 80 ≡ head_byte j k
-  in_in h l = rw (h, l)
-
-  pub in_ex : j ≡ Included → k ≡ Excluded → 96 ≡ head_byte j k
-  in_ex h l = rw (h, l)
-
-  pub ex_free : j ≡ Excluded → k ≡ Unbounded → 128 ≡ head_byte j k
-  ex_free h l = rw (h, l)
-
-  pub ex_in : j ≡ Excluded → k ≡ Included → 144 ≡ head_byte j k
-  ex_in h l = rw (h, l)
-
-  pub ex_ex : j ≡ Excluded → k ≡ Excluded → 160 ≡ head_byte j k
-  ex_ex h l = rw (h, l)
-
-pub ruleset head_bytes = (free_free, free_in, free_ex, in_free, in_in, in_ex, ex_free, ex_in, ex_ex)
+pub ruleset head_exits = (kinds_named, bad_start_kind, bad_end_kind, bad_padding)
 
 -- ---- bounds
 abbrev pub span : Kind → ℕ → ℕ → BoundSpan

@@ -59,8 +59,12 @@ pub ruleset span_exits = (held_in, meeting_in, union_in)
 
 -- ---- meets
 module _ (r q : Range) {w : Sides} (h : w ≡ intersect_sides r q) where
-  pub meet_not : w ≡ Nothing → false ≡ non_empty (overlap r q)
-  meet_not e = sym (ap meets (sym h ∙ e)) ∙ meets_is r q
+  pub meet_not : ((s e : Side) → w ≡ From s e → ⊥) → false ≡ non_empty (overlap r q)
+  meet_not f = sym (go w f) ∙ ap meets h ∙ meets_is r q
+    where
+      go : (w : Sides) → ((s e : Side) → w ≡ From s e → ⊥) → meets w ≡ false
+      go Nothing f = refl
+      go (From s e) f = absurd (f s e refl)
 
   pub meet : {s e : Side} → w ≡ From s e → true ≡ non_empty (overlap r q)
   meet {s} {e} k = sym (ap meets (sym h ∙ k)) ∙ meets_is r q
