@@ -41,12 +41,6 @@ module _ (s : List ℕ) (at : ℕ) {o : Number} (e : number_of 2 s at o ≡ read
     pub enough : at + 2 ≤ length s
     enough = omega (arith, rw length-drop at (number_there 2 n (drop at s) (drop (at + 2) s) read))
 
-    pub start_fits : length s < 2 ^ 64 → Fits w64 (at + 2)
-    start_fits h = omega (arith, enough)
-
-    pub next_fits : length s < 2 ^ 64 → n ≤ length s - (at + 2) → Fits w64 (at + 2 + n)
-    next_fits h k = omega (arith, enough)
-
     pub too_long : 1024 < n → KeyFound s (read_key (drop at s)) (Stop 3)
     unfolding read_key
     too_long h = record { meaning = rw (← read, lt-leb n 1024 h); inside = tt }
@@ -63,4 +57,4 @@ module _ (s : List ℕ) (at : ℕ) {o : Number} (e : number_of 2 s at o ≡ read
           inside = (refl, omega (arith, enough));
         }
 
-pub ruleset key_exits = (no_length, enough, start_fits, next_fits, too_long, cut, whole_key)
+pub ruleset key_exits = (no_length, enough, too_long, cut, whole_key)

@@ -15,9 +15,6 @@ use Rattle.format.specs.Number.{write_number}
 use Rattle.format.specs.Key.{write_key}
 use Rattle.format.proofs.Layouts.{number_length, key_length}
 
-pub byte_put : (d : List ℕ) (at b : ℕ) → at < length d → set d at b ≡ splice d at (b ∷ [])
-byte_put d at b h = set_is_splice d at b h
-
 -- ---- put
 pub put_is : (d : List ℕ) (at : ℕ) (src : List ℕ) → put_mid at (at + length src - at) d src ≡ splice d at src
 put_is d at src = rw (add-sub_cancel_left, drop-drop) (sym (append_assoc (take at d) src (drop (at + length src) d)))
@@ -86,15 +83,6 @@ module _ (d : List ℕ) (at : ℕ) (p q : List ℕ) (room : at + length (write_k
   pub number_room : at + 2 ≤ length d
   number_room = omega (arith, size, room)
 
-  pub key_end_fits : length d < 2 ^ 64 → Fits w64 (at + 2 + length p + length q)
-  key_end_fits h = omega (arith, size, room)
-
-  pub first_place_fits : length d < 2 ^ 64 → Fits w64 (at + 2)
-  first_place_fits h = omega (arith, size, room)
-
-  pub second_place_fits : length d < 2 ^ 64 → Fits w64 (at + 2 + length p)
-  second_place_fits h = omega (arith, size, room)
-
   pub key_end : at + 2 + length p + length q ≡ at + length (write_key (p ++ q))
   key_end = omega (arith, size)
 
@@ -123,4 +111,4 @@ module _ (d : List ℕ) (at : ℕ) (p q : List ℕ) (room : at + length (write_k
           ∙ rw a (splice_splice d at (n ++ p) q (at + 2 + length p) (omega (arith, b)) (omega (arith, b, size, room)) ∙ ap (splice d at) (append_assoc n p q))
           ∙ ap (λ k. splice d at (write_number 2 k ++ (p ++ q))) (sym (length-append p q))
 
-pub ruleset key_puts = (number_room, key_end_fits, first_place_fits, second_place_fits, key_end, first_room, second_room, key_put)
+pub ruleset key_puts = (number_room, key_end, first_room, second_room, key_put)

@@ -27,36 +27,6 @@ use Rattle.format.specs.declared.span.Joined.TheVariants.{Range as Found, Nothin
 abbrev part : List ℕ → BoundSpan → Key
 part s b = take b.len (drop b.at s)
 
--- ---- two bounds
-module _ (a b : List ℕ) (x y : BoundSpan) {j k : Key} (p : j ≡ part a x) (q : k ≡ part b y) where
-  pub compared_in : (start : Bool) {o : Order} → o ≡ cmp_bound start (bound_of x.kind j) (bound_of y.kind k) → o ≡ cmp_bound start (bound_in a x) (bound_in b y)
-  compared_in start h = h ∙ rw (p, q)
-
-  pub passing_in : {t : Bool} → t ≡ non_empty (range_of x.kind j y.kind k) → t ≡ non_empty (record { start = bound_in a x; end = bound_in b y })
-  passing_in h = h ∙ rw (p, q)
-
-  pub start_in : {o : Side} → o ≡ start_side (bound_of x.kind j) (bound_of y.kind k) → o ≡ start_side (bound_in a x) (bound_in b y)
-  start_in h = h ∙ rw (p, q)
-
-  pub end_in : {o : Side} → o ≡ end_side (bound_of x.kind j) (bound_of y.kind k) → o ≡ end_side (bound_in a x) (bound_in b y)
-  end_in h = h ∙ rw (p, q)
-
-pub ruleset bound_pairs = (compared_in, passing_in, start_in, end_in)
-
--- ---- ranges
-module _ (l : List ℕ) (r : RangeSpan) {x y : Key} (p : x ≡ part l r.start) (q : y ≡ part l r.end) where
-  pub held_in : (key : Key) {t : Bool} → t ≡ holds (range_of r.start.kind x r.end.kind y) key → t ≡ holds (range_in l r.start r.end) key
-  held_in key h = h ∙ rw (p, q)
-
-  module _ (m : List ℕ) (s : RangeSpan) {u v : Key} (g : u ≡ part m s.start) (d : v ≡ part m s.end) {w : Sides} where
-    pub meeting_in : w ≡ intersect_sides (range_of r.start.kind x r.end.kind y) (range_of s.start.kind u s.end.kind v) → w ≡ intersect_sides (range_in l r.start r.end) (range_in m s.start s.end)
-    meeting_in h = h ∙ rw (p, q, g, d)
-
-    pub union_in : w ≡ union_sides (range_of r.start.kind x r.end.kind y) (range_of s.start.kind u s.end.kind v) → w ≡ union_sides (range_in l r.start r.end) (range_in m s.start s.end)
-    union_in h = h ∙ rw (p, q, g, d)
-
-pub ruleset span_exits = (held_in, meeting_in, union_in)
-
 -- ---- meets
 module _ (r q : Range) {w : Sides} (h : w ≡ intersect_sides r q) where
   pub meet_not : ((s e : Side) → w ≡ From s e → ⊥) → false ≡ non_empty (overlap r q)
@@ -106,16 +76,6 @@ module _ (s : List ℕ) (b : BoundSpan) {t : Bool} (e : t ≡ is_keyed b.kind) w
   without_key w = sym (no_key_back b.kind (part s b) (sym e ∙ w))
 
 pub ruleset key_exits = (with_key, without_key)
-
--- ---- supplied_key
-module _ (a b : List ℕ) (x : Supplied) {s : List ℕ} (e : s ≡ of x.side a b) where
-  pub supply_inside : SuppliedInside a b x → BoundInside s x.bound
-  supply_inside i = rw e i
-
-  pub supply_key : {k : Key} → k ≡ bound_key (bound_in s x.bound) → k ≡ bound_key (supplied_bound a b x)
-  supply_key q = q ∙ rw e
-
-pub ruleset supply_exits = (supply_inside, supply_key)
 
 -- ---- start_part, end_part
 module _ (a b : List ℕ) {r : Joined} where

@@ -52,9 +52,6 @@ module _ (s : List ℕ) (at : ℕ) (t : T (is_got (read_key (drop at s)))) where
   unfolding read_key
   length_there = omega (arith, rw length-drop at (number_got 2 (drop at s) (first_got (read_number 2 (drop at s)) _ t)))
 
-  pub key_fits : length s < 2 ^ 64 → Fits w64 (at + 2)
-  key_fits h = omega (arith, length_there)
-
   module _ {n : ℕ} (e : read_number 2 (drop at s) ≡ got n (drop (at + 2) s)) where
     opened : T (is_got (pick (leb n 1024) (read_bytes n (drop (at + 2) s)) (stop 3)))
     unfolding read_key
@@ -74,21 +71,7 @@ module _ (s : List ℕ) (at : ℕ) (t : T (is_got (read_key (drop at s)))) where
           inside = omega (arith, length_there, rw length-drop at room);
         }
 
-pub ruleset key_there_exits = (length_there, key_fits, key_is)
-
--- ---- kind_of
-pub kind_free : (n : ℕ) → n ≡ 0 → Unbounded ≡ kind_of n
-kind_free n e = rw e
-
-pub kind_included : (n : ℕ) → n ≡ 1 → Included ≡ kind_of n
-kind_included n e = rw e
-
-pub kind_excluded : (n : ℕ) → (n ≡ 0 → ⊥) → (n ≡ 1 → ⊥) → Excluded ≡ kind_of n
-kind_excluded zero a b = absurd (a refl)
-kind_excluded (suc zero) a b = absurd (b refl)
-kind_excluded (suc (suc n)) a b = refl
-
-pub ruleset kind_exits = (kind_free, kind_included, kind_excluded)
+pub ruleset key_there_exits = (length_there, key_is)
 
 -- ---- bound_there
 module _ (k : Kind) (s : List ℕ) (at : ℕ) {t : Bool} (e : t ≡ is_keyed k) where

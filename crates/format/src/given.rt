@@ -11,7 +11,7 @@ pub enum Given {
     Stop(u8),
 }
 
-#[tactic(auto, using(crate::proofs::GivenExits::given_exits))]
+#[tactic(auto, unfolding(crate::specs::Given::bound_given, crate::specs::Whole::key_given))]
 pub fn bound_given(kind: u8, key: &[u8]) -> Given
     ensures { given_of key.now result ≡ bound_given kind key.now }
 {

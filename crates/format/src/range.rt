@@ -13,7 +13,7 @@ pub enum Head {
 }
 
 // The start's kind in the two highest bits, then the end's, then four bits of padding.
-#[tactic(auto, using(crate::proofs::Ranges::head_exits))]
+#[tactic(auto, unfolding(crate::specs::Range::head_of))]
 fn head_of(b: u8) -> Head
     ensures { result ≡ head_of b }
 {
@@ -128,7 +128,6 @@ pub fn range_whole(s: &[u8]) -> RangeRead
 }
 
 // The key of a bound, as a part of the slice that it stands in.
-#[tactic(auto, using(crate::proofs::Ranges::part_is))]
 pub fn key_of(s: &[u8], b: BoundSpan) -> &[u8]
     requires { BoundInside s.now b }
     ensures { result.now ≡ take b.len (drop b.at s.now) }

@@ -41,7 +41,6 @@ pub enum Joined {
 }
 
 // The order of two bounds, both starts or both ends.
-#[tactic(auto, using(crate::proofs::Spans::bound_pairs))]
 pub fn compare(a: &[u8], x: BoundSpan, b: &[u8], y: BoundSpan, start: bool) -> Order
     requires fact_1 { BoundInside a.now x }
     requires fact_2 { BoundInside b.now y }
@@ -51,7 +50,6 @@ pub fn compare(a: &[u8], x: BoundSpan, b: &[u8], y: BoundSpan, start: bool) -> O
 }
 
 // Whether the range from one bound to another passes `non_empty`.
-#[tactic(auto, using(crate::proofs::Spans::bound_pairs))]
 pub fn passes(a: &[u8], x: BoundSpan, b: &[u8], y: BoundSpan) -> bool
     requires fact_1 { BoundInside a.now x }
     requires fact_2 { BoundInside b.now y }
@@ -61,7 +59,6 @@ pub fn passes(a: &[u8], x: BoundSpan, b: &[u8], y: BoundSpan) -> bool
 }
 
 // The greater of two starts; of equal ones, the second.
-#[tactic(auto, using(crate::proofs::Spans::bound_pairs))]
 pub fn greater_start(a: &[u8], x: BoundSpan, b: &[u8], y: BoundSpan) -> Side
     requires fact_1 { BoundInside a.now x }
     requires fact_2 { BoundInside b.now y }
@@ -71,7 +68,6 @@ pub fn greater_start(a: &[u8], x: BoundSpan, b: &[u8], y: BoundSpan) -> Side
 }
 
 // The lesser of two ends; of equal ones, the first.
-#[tactic(auto, using(crate::proofs::Spans::bound_pairs))]
 pub fn lesser_end(a: &[u8], x: BoundSpan, b: &[u8], y: BoundSpan) -> Side
     requires fact_1 { BoundInside a.now x }
     requires fact_2 { BoundInside b.now y }
@@ -81,7 +77,6 @@ pub fn lesser_end(a: &[u8], x: BoundSpan, b: &[u8], y: BoundSpan) -> Side
 }
 
 // Which of two ranges supplies the start of their intersection, and which the end.
-#[tactic(auto, using(crate::proofs::Spans::span_exits))]
 pub fn intersect<'a>(a: &'a [u8], r: RangeSpan, b: &'a [u8], q: RangeSpan) -> Sides
     requires fact_1 { BoundInside a.now r.start }
     requires fact_2 { BoundInside a.now r.end }
@@ -102,7 +97,6 @@ pub fn intersect<'a>(a: &'a [u8], r: RangeSpan, b: &'a [u8], q: RangeSpan) -> Si
 }
 
 // The same of their union.
-#[tactic(auto, using(crate::proofs::Spans::span_exits))]
 pub fn union<'a>(a: &'a [u8], r: RangeSpan, b: &'a [u8], q: RangeSpan) -> Sides
     requires fact_1 { BoundInside a.now r.start }
     requires fact_2 { BoundInside a.now r.end }
@@ -135,7 +129,6 @@ pub fn meets<'a>(a: &'a [u8], r: RangeSpan, b: &'a [u8], q: RangeSpan) -> bool
 }
 
 // Whether a range holds a key.
-#[tactic(auto, using(crate::proofs::Spans::span_exits))]
 pub fn holds(s: &[u8], r: RangeSpan, key: &[u8]) -> bool
     requires fact_1 { BoundInside s.now r.start }
     requires fact_2 { BoundInside s.now r.end }
@@ -165,7 +158,6 @@ pub fn slice_of<'a>(side: Side, a: &'a [u8], b: &'a [u8]) -> &'a [u8]
 }
 
 // The key of a bound, as a part of the slice that it stands in; an empty part if it has none.
-#[tactic(auto, using(crate::proofs::Spans::key_exits))]
 pub fn bound_key(s: &[u8], b: BoundSpan) -> &[u8]
     requires { BoundInside s.now b }
     ensures { result.now ≡ bound_key (bound_in s.now b) }
@@ -173,12 +165,11 @@ pub fn bound_key(s: &[u8], b: BoundSpan) -> &[u8]
     if comparable_range::keyed(b.kind) {
         key_of(s, b)
     } else {
-        &[]
+        &s[..0]
     }
 }
 
 // The same of a bound that stands in one of two slices.
-#[tactic(auto, using(crate::proofs::Spans::supply_exits))]
 pub fn supplied_key<'a>(a: &'a [u8], b: &'a [u8], x: Supplied) -> &'a [u8]
     requires { SuppliedInside a.now b.now x }
     ensures { result.now ≡ bound_key (supplied_bound a.now b.now x) }
@@ -187,7 +178,6 @@ pub fn supplied_key<'a>(a: &'a [u8], b: &'a [u8], x: Supplied) -> &'a [u8]
 }
 
 // The key of an intersection's start, as a part of the slice that supplied it; an empty part where there is none.
-#[tactic(auto, using(crate::proofs::Spans::part_exits))]
 pub fn start_part<'a>(a: &'a [u8], b: &'a [u8], joined: Joined) -> &'a [u8]
     requires { JoinedInside a.now b.now joined }
     ensures { result.now ≡ key_of (start_key_of (joint_of a.now b.now joined)) }
@@ -200,7 +190,6 @@ pub fn start_part<'a>(a: &'a [u8], b: &'a [u8], joined: Joined) -> &'a [u8]
 }
 
 // The key of its end.
-#[tactic(auto, using(crate::proofs::Spans::part_exits))]
 pub fn end_part<'a>(a: &'a [u8], b: &'a [u8], joined: Joined) -> &'a [u8]
     requires { JoinedInside a.now b.now joined }
     ensures { result.now ≡ key_of (end_key_of (joint_of a.now b.now joined)) }

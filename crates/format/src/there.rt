@@ -53,7 +53,6 @@ pub fn end_kind(head: u8) -> Kind
     kind_of(head / 16 % 4)
 }
 
-#[tactic(auto, using(crate::proofs::ThereExits::kind_exits))]
 fn kind_of(n: u8) -> Kind
     ensures { result ≡ kind_of n }
 {

@@ -4,7 +4,6 @@ ghost use Rattle.base.specs.Splice.{splice};
 ghost use Rattle.format.specs.Number.{write_number};
 ghost use Rattle.format.specs.Key.{write_key};
 
-#[tactic(auto, using(crate::proofs::Puts::byte_put))]
 pub fn put_byte(out: &mut [u8], at: usize, b: u8)
     requires { at < length out.old }
     ensures { out.new ≡ splice out.old at (b ∷ []) }
@@ -12,7 +11,6 @@ pub fn put_byte(out: &mut [u8], at: usize, b: u8)
     out[at] = b;
 }
 
-#[tactic(auto, using(crate::proofs::Puts::put_is))]
 pub fn put(out: &mut [u8], at: usize, src: &[u8])
     requires { at + length src.now ≤ length out.old }
     ensures { out.new ≡ splice out.old at src.now }
