@@ -33,7 +33,8 @@ module _ {t : List ℕ} {i v : ℕ} (p : Reading t i v) where
   fits h k =
       let n : suc i ≤ 8 = omega arith in
       let q : 256 ^ suc i ≤ 256 ^ 8 = pow-le-pow_right (lit< tt) n in
-      omega (arith, rw pow-succ' at q, p.small)
+      let e : 256 ^ suc i ≡ 256 * 256 ^ i = rw pow-succ' in
+      omega (arith, e, q, p.small)
 
   pub product_fits : i < length t → length t ≤ 8 → Fits w64 (v * 256)
   product_fits h k = omega (arith, fits h k)

@@ -1,23 +1,15 @@
 -- What the loop of `put_number` keeps, and how the pieces of a key come together.
 -- Assumes nothing.
-use Prim.Native.Nat.{ℕ, zero, suc, ◌+◌, ◌-◌, ◌<◌, ◌≤◌, ◌^◌, ◌/◌, ◌%◌}
+use Prim.Native.Nat.{ℕ, zero, suc, ◌+◌, ◌-◌, ◌<◌, ◌≤◌, ◌/◌, ◌%◌}
 use native.Mathlib.Omega.{arith}
-use native.Mathlib.Nat.{add-zero, add-sub_cancel_left}
+use native.Mathlib.Nat.{add-zero}
 use mathlib.Core.Path.{◌≡◌, refl, sym, ◌∙◌, ap}
 use mathlib.Core.List.{List, [], ◌∷◌, ◌++◌, append_assoc, append-nil}
-use lib.ListN.{length, take, drop, set, length-append}
-use lib.Seq.{drop-drop}
-use borrow.Rule.Slice.PartMut.{put_mid}
-use mir.Val.{Fits}
-use mir.Syntax.{w64}
-use Rattle.base.specs.Splice.{splice, splice_none, set_splice, set_is_splice, length_splice, splice_splice}
+use lib.ListN.{length, set, length-append}
+use Rattle.base.specs.Splice.{splice, splice_none, set_splice, length_splice, splice_splice}
 use Rattle.format.specs.Number.{write_number}
 use Rattle.format.specs.Key.{write_key}
 use Rattle.format.proofs.Layouts.{number_length, key_length}
-
--- ---- put
-pub put_is : (d : List ℕ) (at : ℕ) (src : List ℕ) → put_mid at (at + length src - at) d src ≡ splice d at src
-put_is d at src = rw (add-sub_cancel_left, drop-drop) (sym (append_assoc (take at d) src (drop (at + length src) d)))
 
 -- ---- put_number: the last bytes stand in their place from i on, and as many of rest are left
 pub record Counted (d : List ℕ) (at v n : ℕ) (out : List ℕ) (rest i : ℕ) : Type 0 where

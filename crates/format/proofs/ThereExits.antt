@@ -1,23 +1,18 @@
 -- A reading that succeeded has its bytes: the exits of the functions of `there`, which read them again.
 -- Assumes nothing.
-use Prim.Native.Nat.{ℕ, zero, suc, ◌+◌, ◌/◌, ◌%◌, ◌^◌, ◌<◌, ◌≤◌}
+use Prim.Native.Nat.{ℕ, ◌+◌, ◌/◌, ◌%◌, ◌<◌, ◌≤◌}
 use native.Mathlib.Omega.{arith}
-use native.Mathlib.Nat.{add-zero}
 use native.Mathlib.Numerals.{add-one}
-use mathlib.Core.Path.{◌≡◌, refl, sym, ap, ◌∙◌}
+use mathlib.Core.Path.{◌≡◌, refl, ap, ◌∙◌}
 use mathlib.Core.Bool.{Bool, true, false}
 use mathlib.Core.List.{List, []}
 use lib.ListN.{length, get_or, take, drop, length-drop, drop_of_length-le}
 use lib.Seq.{drop-cons, drop-drop}
 use lib.Dec.{T, leb, ltb, eqb}
-use mir.Val.{Fits}
-use mir.Syntax.{w64}
 use borrow.Author.Tests.{le-leb, leb-true, leb-false}
 use Rattle.base.specs.Pick.{pick}
 use Rattle.key.specs.Word.{digits}
-use Rattle.comparable_range.specs.Factors.{is_keyed}
 use Rattle.comparable_range.specs.declared.Kind.{Kind}
-use Rattle.comparable_range.specs.declared.Kind.TheVariants.{Unbounded, Included, Excluded}
 use Rattle.format.specs.Got.{Got, got, stop, and_then, is_got}
 use Rattle.format.specs.Number.{read_number}
 use Rattle.format.specs.Key.{read_bytes, read_key}
@@ -26,8 +21,6 @@ use Rattle.format.specs.There.{KeyThere, BoundThere}
 use Rattle.format.specs.declared.range.Head.{Head}
 use Rattle.format.specs.declared.range.Head.TheVariants.{Kinds, Stop as HeadStop}
 use Rattle.format.specs.declared.range.BoundSpan.{BoundSpan}
-use Rattle.format.specs.declared.there.KeySpan.{KeySpan}
-use Rattle.format.proofs.Ranges.{span, keyed_read, unkeyed_read}
 
 -- ---- what succeeded
 pub picked : {A : Type 0} (b : Bool) (g : Got A) (k : ℕ) → T (is_got (pick b g (stop k))) → b ≡ true
@@ -72,20 +65,6 @@ module _ (s : List ℕ) (at : ℕ) (t : T (is_got (read_key (drop at s)))) where
         }
 
 pub ruleset key_there_exits = (length_there, key_is)
-
--- ---- bound_there
-module _ (k : Kind) (s : List ℕ) (at : ℕ) {t : Bool} (e : t ≡ is_keyed k) where
-  pub key_got_lem : t ≡ true → T (is_got (read_bound k (drop at s))) → T (is_got (read_key (drop at s)))
-  key_got_lem h g = first_got (read_key (drop at s)) _ (rw (keyed_read k (drop at s) (sym e ∙ h)) at g)
-
-  pub bound_keyed : {r : KeySpan} → t ≡ true → KeyThere s (read_key (drop at s)) r → BoundThere s (read_bound k (drop at s)) (span k r.at r.len)
-  bound_keyed h f = record { meaning = rw (keyed_read k (drop at s) (sym e ∙ h), f.meaning); inside = f.inside }
-
-  pub bound_free : t ≡ false → at ≤ length s → BoundThere s (read_bound k (drop at s)) (span k at 0)
-  bound_free h l =
-      record { meaning = rw add-zero (unkeyed_read k (drop at s) [] (sym e ∙ h)); inside = rw add-zero l }
-
-pub ruleset bound_there_exits = (key_got_lem, bound_keyed, bound_free)
 
 -- ---- a range that is there: its head byte names two kinds, and a bound of each follows
 heads : (a b c : Bool) (h : Head) (l : List ℕ) → T (is_got (headed (pick a (pick b (pick c h (HeadStop 2)) (HeadStop 2)) (HeadStop 2)) l)) → pick a (pick b (pick c h (HeadStop 2)) (HeadStop 2)) (HeadStop 2) ≡ h

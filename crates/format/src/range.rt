@@ -56,7 +56,7 @@ pub enum BoundRead {
 }
 
 // The bound of a kind at a place.
-#[tactic(auto, using(crate::proofs::Ranges::bound_exits))]
+#[tactic(auto, unfolding(crate::specs::Range::read_bound))]
 fn bound_at(kind: Kind, s: &[u8], at: usize) -> BoundRead
     requires { at ≤ length s.now }
     ensures { BoundFound s.now (read_bound kind (drop at s.now)) result }
@@ -109,7 +109,7 @@ pub fn range_at(s: &[u8], at: usize) -> RangeRead
 }
 
 // The range that is the whole of a buffer.
-#[tactic(auto, using(crate::proofs::Ranges::whole_exits))]
+#[tactic(auto, using(crate::proofs::Ranges::bytes_left), unfolding(crate::specs::Whole::whole))]
 pub fn range_whole(s: &[u8]) -> RangeRead
     ensures { RangeWhole s.now result }
 {

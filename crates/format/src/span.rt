@@ -209,7 +209,6 @@ pub enum Met {
 }
 
 // Which of two ranges whose bounds stand in two slices supplies the start of their intersection, and which the end.
-#[tactic(auto, using(crate::proofs::Joints::joint_exits))]
 fn joint_sides<'a>(a: &'a [u8], b: &'a [u8], x: JointSpan, y: JointSpan) -> Sides
     requires fact_1 { JointInside a.now b.now x }
     requires fact_2 { JointInside a.now b.now y }
@@ -228,7 +227,7 @@ fn joint_sides<'a>(a: &'a [u8], b: &'a [u8], x: JointSpan, y: JointSpan) -> Side
 }
 
 // The intersection of two such ranges: each bound keeps its supplier.
-#[tactic(auto, using(crate::proofs::Joints::joint_exits))]
+#[tactic(auto, unfolding(crate::specs::Joint::intersect))]
 pub fn intersect_joint<'a>(a: &'a [u8], b: &'a [u8], x: JointSpan, y: JointSpan) -> Met
     requires fact_1 { JointInside a.now b.now x }
     requires fact_2 { JointInside a.now b.now y }

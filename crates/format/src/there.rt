@@ -64,7 +64,7 @@ fn kind_of(n: u8) -> Kind
 }
 
 // The bound of a kind. What comes after it comes right after its key, or where it stands if it has none.
-#[tactic(auto, using(crate::proofs::ThereExits::bound_there_exits))]
+#[tactic(auto, unfolding(crate::specs::Range::read_bound))]
 pub fn bound_there(kind: Kind, s: &[u8], at: usize) -> BoundSpan
     requires fact_1 { at ≤ length s.now }
     requires fact_2 { T (is_got (read_bound kind (drop at s.now))) }
