@@ -132,7 +132,7 @@ pub fn contains(ks: Kind, s: &[u8], ke: Kind, e: &[u8], key: &[u8]) -> bool
 }
 
 // Of two values, the one of a side.
-fn of<T: Copy>(side: Side, a: T, b: T) -> T
+pub fn of<T: Copy>(side: Side, a: T, b: T) -> T
     ensures { result ≡ of side a b }
 {
     match side {

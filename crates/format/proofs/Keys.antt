@@ -1,6 +1,6 @@
 -- The exits of `key_at`.
 -- Assumes nothing.
-use Prim.Native.Nat.{ℕ, ◌+◌, ◌-◌, ◌^◌, ◌<◌, ◌≤◌}
+use Prim.Native.Nat.{ℕ, ◌+◌, ◌-◌, ◌<◌, ◌≤◌}
 use native.Mathlib.Omega.{arith}
 use mathlib.Core.Path.{◌≡◌, refl, sym}
 use mathlib.Core.List.{List}
@@ -8,8 +8,6 @@ use mathlib.Core.Bool.{Bool, true, false}
 use lib.ListN.{length, take, drop, length-drop}
 use lib.Seq.{drop-drop}
 use lib.Dec.{leb}
-use mir.Val.{Fits}
-use mir.Syntax.{w64}
 use borrow.Author.Tests.{le-leb, lt-leb, leb-true}
 use Rattle.base.specs.Pick.{pick}
 use Rattle.format.specs.Got.{got, stop}
@@ -41,12 +39,6 @@ module _ (s : List ℕ) (at : ℕ) {o : Number} (e : number_of 2 s at o ≡ read
     pub enough : at + 2 ≤ length s
     enough = omega (arith, rw length-drop at (number_there 2 n (drop at s) (drop (at + 2) s) read))
 
-    pub start_fits : length s < 2 ^ 64 → Fits w64 (at + 2)
-    start_fits h = omega (arith, enough)
-
-    pub next_fits : length s < 2 ^ 64 → n ≤ length s - (at + 2) → Fits w64 (at + 2 + n)
-    next_fits h k = omega (arith, enough)
-
     pub too_long : 1024 < n → KeyFound s (read_key (drop at s)) (Stop 3)
     unfolding read_key
     too_long h = record { meaning = rw (← read, lt-leb n 1024 h); inside = tt }
@@ -63,4 +55,4 @@ module _ (s : List ℕ) (at : ℕ) {o : Number} (e : number_of 2 s at o ≡ read
           inside = (refl, omega (arith, enough));
         }
 
-pub ruleset key_exits = (no_length, enough, start_fits, next_fits, too_long, cut, whole_key)
+pub ruleset key_exits = (no_length, enough, too_long, cut, whole_key)

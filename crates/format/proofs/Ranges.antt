@@ -1,26 +1,15 @@
 -- The exits of the readers of ranges.
 -- Assumes nothing.
-use Prim.Native.Nat.{ℕ, ◌+◌, ◌-◌, ◌≤◌, ◌<◌}
-use native.Mathlib.Nat.{add-zero, add-sub_cancel_left}
+use Prim.Native.Nat.{ℕ, ◌+◌, ◌≤◌, ◌<◌}
 use native.Mathlib.Numerals.{add-one}
-use mathlib.Core.Path.{◌≡◌, refl, sym, ◌∙◌, ap}
-use mathlib.Core.List.{List, [], ◌∷◌}
-use mathlib.Core.Bool.{Bool, true, false}
-use lib.ListN.{length, get_or, take, drop, drop_of_length-le}
+use mathlib.Core.Path.{◌≡◌, sym, ◌∙◌}
+use mathlib.Core.List.{List}
+use lib.ListN.{length, get_or, drop, drop_of_length-le}
 use lib.Seq.{drop-cons}
-use lib.Dec.{T, eqb, eqb→eq}
-use borrow.Author.Tests.{le-leb, lt-leb}
-use Rattle.base.specs.Table.{NoneOf, ruled}
-use Rattle.comparable_range.specs.Range.{bound_of}
-use Rattle.comparable_range.specs.Factors.{is_keyed}
+use borrow.Author.Tests.{le-leb}
 use Rattle.comparable_range.specs.declared.Kind.{Kind}
-use Rattle.comparable_range.specs.declared.Kind.TheVariants.{Unbounded, Included, Excluded}
-use Rattle.format.specs.Got.{got, and_then}
-use Rattle.format.specs.Key.{read_key, KeyFound}
-use Rattle.format.specs.Range.{head_of, head_byte, read_bound, BoundFound, headed, read_range, RangeFound, RangeWhole}
+use Rattle.format.specs.Range.{head_of, read_bound, BoundFound, headed, read_range, RangeFound, RangeWhole}
 use Rattle.format.specs.Whole.{whole}
-use Rattle.format.specs.declared.KeyRead.{KeyRead}
-use Rattle.format.specs.declared.KeyRead.TheVariants.{At as KeyAt, Stop as KeyStop}
 use Rattle.format.specs.declared.range.Head.{Head}
 use Rattle.format.specs.declared.range.Head.TheVariants.{Kinds, Stop as HeadStop}
 use Rattle.format.specs.declared.range.BoundSpan.{BoundSpan}
@@ -28,89 +17,6 @@ use Rattle.format.specs.declared.range.BoundRead.{BoundRead}
 use Rattle.format.specs.declared.range.BoundRead.TheVariants.{At as BoundAt, Stop as BoundStop}
 use Rattle.format.specs.declared.range.RangeRead.{RangeRead}
 use Rattle.format.specs.declared.range.RangeRead.TheVariants.{At, Stop}
-
--- ---- a head byte that is none of the nine valid ones
-abbrev stopped : Head → Bool
-stopped (Kinds a b) = false
-stopped (HeadStop n) = eqb n 2
-
-stopped_is : (h : Head) → T (stopped h) → HeadStop 2 ≡ h
-stopped_is (Kinds a b) w = absurd w
-stopped_is (HeadStop n) w = ap HeadStop (sym (eqb→eq n 2 w))
-
-abbrev valid : List ℕ
-valid = 160 ∷ 144 ∷ 128 ∷ 96 ∷ 80 ∷ 64 ∷ 32 ∷ 16 ∷ 0 ∷ []
-
-pub other_head : (b : ℕ) → b < 256 → NoneOf b valid → HeadStop 2 ≡ head_of b
-unfolding head_of
-other_head b h r = stopped_is (head_of b) (ruled (λ b. stopped (head_of b)) valid 256 tt b h r)
-
--- ---- the head byte of each pair of kinds
-module _ (j k : Kind) where
-  pub free_free : j ≡ Unbounded → k ≡ Unbounded → 0 ≡ head_byte j k
-  free_free h l = rw (h, l)
-
-  pub free_in : j ≡ Unbounded → k ≡ Included → 16 ≡ head_byte j k
-  free_in h l = rw (h, l)
-
-  pub free_ex : j ≡ Unbounded → k ≡ Excluded → 32 ≡ head_byte j k
-  free_ex h l = rw (h, l)
-
-  pub in_free : j ≡ Included → k ≡ Unbounded → 64 ≡ head_byte j k
-  in_free h l = rw (h, l)
-
-  pub in_in : j ≡ Included → k ≡ Included → 80 ≡ head_byte j k
-  in_in h l = rw (h, l)
-
-  pub in_ex : j ≡ Included → k ≡ Excluded → 96 ≡ head_byte j k
-  in_ex h l = rw (h, l)
-
-  pub ex_free : j ≡ Excluded → k ≡ Unbounded → 128 ≡ head_byte j k
-  ex_free h l = rw (h, l)
-
-  pub ex_in : j ≡ Excluded → k ≡ Included → 144 ≡ head_byte j k
-  ex_in h l = rw (h, l)
-
-  pub ex_ex : j ≡ Excluded → k ≡ Excluded → 160 ≡ head_byte j k
-  ex_ex h l = rw (h, l)
-
-pub ruleset head_bytes = (free_free, free_in, free_ex, in_free, in_in, in_ex, ex_free, ex_in, ex_ex)
-
--- ---- bounds
-abbrev pub span : Kind → ℕ → ℕ → BoundSpan
-span k i n = record { kind = k; at = i; len = n }
-
--- a bound's key is read, of whichever kind has one
-pub keyed_read : (k : Kind) (l : List ℕ) → is_keyed k ≡ true → read_bound k l ≡ and_then (read_key l) (λ x r. got (bound_of k x) r)
-unfolding read_bound
-keyed_read Unbounded l e = absurd (mathlib.Core.Bool.true≢false (sym e))
-keyed_read Included l e = refl
-keyed_read Excluded l e = refl
-
-pub unkeyed_read : (k : Kind) (l x : List ℕ) → is_keyed k ≡ false → read_bound k l ≡ got (bound_of k x) l
-unfolding read_bound
-unkeyed_read Unbounded l x e = refl
-unkeyed_read Included l x e = absurd (mathlib.Core.Bool.true≢false e)
-unkeyed_read Excluded l x e = absurd (mathlib.Core.Bool.true≢false e)
-
-module _ (k : Kind) (s : List ℕ) (at : ℕ) {t : Bool} (e : t ≡ is_keyed k) where
-  module _ (h : t ≡ true) {r : KeyRead} (f : KeyFound s (read_key (drop at s)) r) where
-    pub no_key : {n : ℕ} → r ≡ KeyStop n → BoundFound s (read_bound k (drop at s)) (BoundStop n)
-    no_key w = record { meaning = rw (keyed_read k (drop at s) (sym e ∙ h), ← f.meaning, w); inside = tt }
-
-    pub with_key : {i n p : ℕ} → r ≡ KeyAt i n p → BoundFound s (read_bound k (drop at s)) (BoundAt (span k i n) p)
-    with_key w =
-        let z = rw w at f.inside in
-        record {
-          meaning = rw (keyed_read k (drop at s) (sym e ∙ h), ← f.meaning, w);
-          inside = (rw z.0 z.1, z.1);
-        }
-
-  pub without_key : t ≡ false → at ≤ length s → BoundFound s (read_bound k (drop at s)) (BoundAt (span k at 0) at)
-  without_key h l =
-      record { meaning = sym (unkeyed_read k (drop at s) [] (sym e ∙ h)); inside = (rw add-zero l, l) }
-
-pub ruleset bound_exits = (no_key, with_key, without_key)
 
 -- ---- ranges
 module _ (s : List ℕ) (at : ℕ) where
@@ -150,32 +56,12 @@ module _ (s : List ℕ) (at : ℕ) where
 pub ruleset range_exits = (past_range, bad_head, bad_start, end_place_lem, bad_end, both_read)
 
 -- ---- a whole buffer
-module _ (s : List ℕ) where
-  pub too_large : 65536 < length s → RangeWhole s (Stop 3)
-  unfolding whole
-  too_large h = record { meaning = rw (lt-leb (length s) 65536 h); inside = tt }
-
-  module _ (l : length s ≤ 65536) {r : RangeRead} (f : RangeFound s (read_range (drop 0 s)) r) where
-    pub not_read : {n : ℕ} → r ≡ Stop n → RangeWhole s (Stop n)
-    unfolding whole
-    not_read w = record { meaning = rw (le-leb (length s) 65536 l, ← f.meaning, w); inside = tt }
-
-    module _ {b c : BoundSpan} {z : ℕ} (w : r ≡ At b c z) where
-      pub bytes_left : z < length s → RangeWhole s (Stop 1)
-      unfolding whole
-      bytes_left h = record { meaning = rw (le-leb (length s) 65536 l, ← f.meaning, w, drop-cons s z 0); inside = tt }
-
-      pub all_read : length s ≤ z → RangeWhole s (At b c z)
-      unfolding whole
-      all_read h =
-          let x = rw w at f.inside in
-          record {
-            meaning = rw (le-leb (length s) 65536 l, ← f.meaning, w, drop_of_length-le s {i = z} h);
-            inside = x;
-          }
-
-pub ruleset whole_exits = (too_large, not_read, bytes_left, all_read)
-
--- ---- parts
-pub part_is : (s : List ℕ) (at len : ℕ) → take (at + len - at) (drop at s) ≡ take len (drop at s)
-part_is s at len = rw add-sub_cancel_left
+pub bytes_left :
+    (s : List ℕ) {r : RangeRead} {b c : BoundSpan} {z : ℕ}
+    → length s ≤ 65536
+    → RangeFound s (read_range (drop 0 s)) r
+    → r ≡ At b c z
+    → z < length s
+    → RangeWhole s (Stop 1)
+unfolding whole
+bytes_left s {r} {b} {c} {z} l f w h = record { meaning = rw (le-leb (length s) 65536 l, ← f.meaning, w, drop-cons s z 0); inside = tt }

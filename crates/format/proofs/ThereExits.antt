@@ -1,23 +1,18 @@
 -- A reading that succeeded has its bytes: the exits of the functions of `there`, which read them again.
 -- Assumes nothing.
-use Prim.Native.Nat.{ℕ, zero, suc, ◌+◌, ◌/◌, ◌%◌, ◌^◌, ◌<◌, ◌≤◌}
+use Prim.Native.Nat.{ℕ, ◌+◌, ◌/◌, ◌%◌, ◌<◌, ◌≤◌}
 use native.Mathlib.Omega.{arith}
-use native.Mathlib.Nat.{add-zero}
 use native.Mathlib.Numerals.{add-one}
-use mathlib.Core.Path.{◌≡◌, refl, sym, ap, ◌∙◌}
+use mathlib.Core.Path.{◌≡◌, refl, ap, ◌∙◌}
 use mathlib.Core.Bool.{Bool, true, false}
 use mathlib.Core.List.{List, []}
 use lib.ListN.{length, get_or, take, drop, length-drop, drop_of_length-le}
 use lib.Seq.{drop-cons, drop-drop}
 use lib.Dec.{T, leb, ltb, eqb}
-use mir.Val.{Fits}
-use mir.Syntax.{w64}
 use borrow.Author.Tests.{le-leb, leb-true, leb-false}
 use Rattle.base.specs.Pick.{pick}
 use Rattle.key.specs.Word.{digits}
-use Rattle.comparable_range.specs.Factors.{is_keyed}
 use Rattle.comparable_range.specs.declared.Kind.{Kind}
-use Rattle.comparable_range.specs.declared.Kind.TheVariants.{Unbounded, Included, Excluded}
 use Rattle.format.specs.Got.{Got, got, stop, and_then, is_got}
 use Rattle.format.specs.Number.{read_number}
 use Rattle.format.specs.Key.{read_bytes, read_key}
@@ -26,8 +21,6 @@ use Rattle.format.specs.There.{KeyThere, BoundThere}
 use Rattle.format.specs.declared.range.Head.{Head}
 use Rattle.format.specs.declared.range.Head.TheVariants.{Kinds, Stop as HeadStop}
 use Rattle.format.specs.declared.range.BoundSpan.{BoundSpan}
-use Rattle.format.specs.declared.there.KeySpan.{KeySpan}
-use Rattle.format.proofs.Ranges.{span, keyed_read, unkeyed_read}
 
 -- ---- what succeeded
 pub picked : {A : Type 0} (b : Bool) (g : Got A) (k : ℕ) → T (is_got (pick b g (stop k))) → b ≡ true
@@ -52,9 +45,6 @@ module _ (s : List ℕ) (at : ℕ) (t : T (is_got (read_key (drop at s)))) where
   unfolding read_key
   length_there = omega (arith, rw length-drop at (number_got 2 (drop at s) (first_got (read_number 2 (drop at s)) _ t)))
 
-  pub key_fits : length s < 2 ^ 64 → Fits w64 (at + 2)
-  key_fits h = omega (arith, length_there)
-
   module _ {n : ℕ} (e : read_number 2 (drop at s) ≡ got n (drop (at + 2) s)) where
     opened : T (is_got (pick (leb n 1024) (read_bytes n (drop (at + 2) s)) (stop 3)))
     unfolding read_key
@@ -74,35 +64,7 @@ module _ (s : List ℕ) (at : ℕ) (t : T (is_got (read_key (drop at s)))) where
           inside = omega (arith, length_there, rw length-drop at room);
         }
 
-pub ruleset key_there_exits = (length_there, key_fits, key_is)
-
--- ---- kind_of
-pub kind_free : (n : ℕ) → n ≡ 0 → Unbounded ≡ kind_of n
-kind_free n e = rw e
-
-pub kind_included : (n : ℕ) → n ≡ 1 → Included ≡ kind_of n
-kind_included n e = rw e
-
-pub kind_excluded : (n : ℕ) → (n ≡ 0 → ⊥) → (n ≡ 1 → ⊥) → Excluded ≡ kind_of n
-kind_excluded zero a b = absurd (a refl)
-kind_excluded (suc zero) a b = absurd (b refl)
-kind_excluded (suc (suc n)) a b = refl
-
-pub ruleset kind_exits = (kind_free, kind_included, kind_excluded)
-
--- ---- bound_there
-module _ (k : Kind) (s : List ℕ) (at : ℕ) {t : Bool} (e : t ≡ is_keyed k) where
-  pub key_got_lem : t ≡ true → T (is_got (read_bound k (drop at s))) → T (is_got (read_key (drop at s)))
-  key_got_lem h g = first_got (read_key (drop at s)) _ (rw (keyed_read k (drop at s) (sym e ∙ h)) at g)
-
-  pub bound_keyed : {r : KeySpan} → t ≡ true → KeyThere s (read_key (drop at s)) r → BoundThere s (read_bound k (drop at s)) (span k r.at r.len)
-  bound_keyed h f = record { meaning = rw (keyed_read k (drop at s) (sym e ∙ h), f.meaning); inside = f.inside }
-
-  pub bound_free : t ≡ false → at ≤ length s → BoundThere s (read_bound k (drop at s)) (span k at 0)
-  bound_free h l =
-      record { meaning = rw add-zero (unkeyed_read k (drop at s) [] (sym e ∙ h)); inside = rw add-zero l }
-
-pub ruleset bound_there_exits = (key_got_lem, bound_keyed, bound_free)
+pub ruleset key_there_exits = (length_there, key_is)
 
 -- ---- a range that is there: its head byte names two kinds, and a bound of each follows
 heads : (a b c : Bool) (h : Head) (l : List ℕ) → T (is_got (headed (pick a (pick b (pick c h (HeadStop 2)) (HeadStop 2)) (HeadStop 2)) l)) → pick a (pick b (pick c h (HeadStop 2)) (HeadStop 2)) (HeadStop 2) ≡ h

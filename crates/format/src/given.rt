@@ -11,31 +11,17 @@ pub enum Given {
     Stop(u8),
 }
 
+#[tactic(auto, unfolding(crate::specs::Given::bound_given, crate::specs::Whole::key_given))]
 pub fn bound_given(kind: u8, key: &[u8]) -> Given
     ensures { given_of key.now result ≡ bound_given kind key.now }
 {
     match kind {
-        0 => {
-            if 65536 < key.len() {
-                return Given::Stop(3);
-            }
-            if 0 < key.len() {
-                return Given::Stop(1);
-            }
-            Given::Bound(Kind::Unbounded)
-        }
-        1 => {
-            if 1024 < key.len() {
-                return Given::Stop(3);
-            }
-            Given::Bound(Kind::Included)
-        }
-        2 => {
-            if 1024 < key.len() {
-                return Given::Stop(3);
-            }
-            Given::Bound(Kind::Excluded)
-        }
+        0 if 65536 < key.len() => Given::Stop(3),
+        0 if 0 < key.len() => Given::Stop(1),
+        0 => Given::Bound(Kind::Unbounded),
+        1 | 2 if 1024 < key.len() => Given::Stop(3),
+        1 => Given::Bound(Kind::Included),
+        2 => Given::Bound(Kind::Excluded),
         3..=255 => Given::Stop(2),
     }
 }

@@ -7,7 +7,7 @@ pub mod span;
 mod there;
 mod write;
 
-ghost use Rattle.std.specs.Prelude.{◌≡◌, ◌≤◌, ◌<◌, length, take, drop};
+ghost use Rattle.std.specs.Prelude.{◌≡◌, ◌≤◌, ◌<◌, length, drop};
 ghost use Rattle.key.specs.Word.{digits};
 ghost use Rattle.format.specs.Number.{read_number, number_of};
 ghost use Rattle.format.specs.Key.{read_key, KeyFound};
@@ -24,40 +24,31 @@ pub enum Number {
     Short,
 }
 
-fn wide(x: u8) -> u64
-    ensures { (result ≡ x) × (result < 256) }
+// The number of at most eight bytes, most significant first.
+#[tactic(auto, using(crate::proofs::Digits::kept))]
+fn big_endian(t: &[u8]) -> u64
+    requires { length t.now ≤ 8 }
+    ensures { result ≡ digits 0 t.now }
 {
-    x as u64
-}
-
-// The number of the first n bytes of t, most significant first.
-fn front(t: &[u8], n: usize) -> u64
-    requires fact_1 { n ≤ 8 }
-    requires fact_2 { n ≤ length t.now }
-    ensures { result ≡ digits 0 (take n t.now) }
-{
-    let mut v: u64 = 0;
-    let mut i = 0;
-    while i < n {
-        v = v * 256 + wide(t[i]);
-        i += 1;
+    let mut v = 0;
+    for &b in t {
+        v = v * 256 + u64::from(b);
     }
     v
 }
 
 // The number of n bytes at a place.
+#[tactic(auto, using(crate::proofs::Digits::number_exits))]
 pub fn number_at(s: &[u8], at: usize, n: usize) -> Number
     requires fact_1 { 0 < n }
     requires fact_2 { n ≤ 8 }
     ensures { number_of n s.now at result ≡ read_number n (drop at s.now) }
 {
-    if s.len() < at {
-        return Number::Short;
+    if s.len() < at || s.len() - at < n {
+        Number::Short
+    } else {
+        Number::Value(big_endian(&s[at..at + n]))
     }
-    if s.len() - at < n {
-        return Number::Short;
-    }
-    Number::Value(front(&s[at..], n))
 }
 
 // What reading a key finds: its bytes start at start and are len long, and next is past them.
@@ -72,6 +63,7 @@ pub enum KeyRead {
 }
 
 // The key at a place.
+#[tactic(auto, using(crate::proofs::Keys::key_exits))]
 pub fn key_at(s: &[u8], at: usize) -> KeyRead
     ensures { KeyFound s.now (read_key (drop at s.now)) result }
 {

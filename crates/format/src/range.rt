@@ -1,8 +1,8 @@
 // Ranges: a head byte, and the keys that it calls for.
-ghost use Rattle.std.specs.Prelude.{◌≡◌, ◌≤◌, ◌+◌, length, take, drop};
-ghost use Rattle.format.specs.Range.{head_of, head_byte, read_bound, read_range, BoundFound, RangeFound, RangeWhole, BoundInside};
+ghost use Rattle.std.specs.Prelude.{◌≡◌, ◌≤◌, ◌<◌, ◌+◌, length, take, drop};
+ghost use Rattle.format.specs.Range.{head_of, head_byte, kind_number, read_bound, read_range, BoundFound, RangeFound, RangeWhole, BoundInside};
 
-use crate::{KeyRead, key_at};
+use crate::{KeyRead, end_kind, key_at, start_kind};
 use comparable_range::Kind;
 
 // What the head byte says: the kinds of start and end.
@@ -13,31 +13,24 @@ pub enum Head {
 }
 
 // The start's kind in the two highest bits, then the end's, then four bits of padding.
+#[tactic(auto, unfolding(crate::specs::Range::head_of))]
 fn head_of(b: u8) -> Head
     ensures { result ≡ head_of b }
 {
-    match b {
-        0 => Head::Kinds(Kind::Unbounded, Kind::Unbounded),
-        16 => Head::Kinds(Kind::Unbounded, Kind::Included),
-        32 => Head::Kinds(Kind::Unbounded, Kind::Excluded),
-        64 => Head::Kinds(Kind::Included, Kind::Unbounded),
-        80 => Head::Kinds(Kind::Included, Kind::Included),
-        96 => Head::Kinds(Kind::Included, Kind::Excluded),
-        128 => Head::Kinds(Kind::Excluded, Kind::Unbounded),
-        144 => Head::Kinds(Kind::Excluded, Kind::Included),
-        160 => Head::Kinds(Kind::Excluded, Kind::Excluded),
-        // Padding.
-        1..=15
-        | 17..=31
-        | 33..=47
-        | 65..=79
-        | 81..=95
-        | 97..=111
-        | 129..=143
-        | 145..=159
-        | 161..=175 => Head::Stop(2),
-        // Kind 3.
-        48..=63 | 112..=127 | 176..=255 => Head::Stop(2),
+    if b / 64 < 3 && b / 16 % 4 < 3 && b % 16 == 0 {
+        Head::Kinds(start_kind(b), end_kind(b))
+    } else {
+        Head::Stop(2)
+    }
+}
+
+fn kind_number(k: Kind) -> u8
+    ensures { (result ≡ kind_number k) × (result < 3) }
+{
+    match k {
+        Kind::Unbounded => 0,
+        Kind::Included => 1,
+        Kind::Excluded => 2,
     }
 }
 
@@ -45,23 +38,7 @@ fn head_of(b: u8) -> Head
 pub fn head_byte(ks: Kind, ke: Kind) -> u8
     ensures { result ≡ head_byte ks ke }
 {
-    match ks {
-        Kind::Unbounded => match ke {
-            Kind::Unbounded => 0,
-            Kind::Included => 16,
-            Kind::Excluded => 32,
-        },
-        Kind::Included => match ke {
-            Kind::Unbounded => 64,
-            Kind::Included => 80,
-            Kind::Excluded => 96,
-        },
-        Kind::Excluded => match ke {
-            Kind::Unbounded => 128,
-            Kind::Included => 144,
-            Kind::Excluded => 160,
-        },
-    }
+    kind_number(ks) * 64 + kind_number(ke) * 16
 }
 
 // A bound: its kind, and where its key stands. An unbounded one has no key, and its span is empty.
@@ -79,28 +56,25 @@ pub enum BoundRead {
 }
 
 // The bound of a kind at a place.
+#[tactic(auto, unfolding(crate::specs::Range::read_bound))]
 fn bound_at(kind: Kind, s: &[u8], at: usize) -> BoundRead
     requires { at ≤ length s.now }
     ensures { BoundFound s.now (read_bound kind (drop at s.now)) result }
 {
-    if comparable_range::keyed(kind) {
-        match key_at(s, at) {
-            KeyRead::Stop(n) => {
-                return BoundRead::Stop(n);
-            }
-            KeyRead::At { start, len, next } => {
-                return BoundRead::At(
-                    BoundSpan {
-                        kind,
-                        at: start,
-                        len,
-                    },
-                    next,
-                );
-            }
-        }
+    if !comparable_range::keyed(kind) {
+        return BoundRead::At(BoundSpan { kind, at, len: 0 }, at);
     }
-    BoundRead::At(BoundSpan { kind, at, len: 0 }, at)
+    match key_at(s, at) {
+        KeyRead::Stop(n) => BoundRead::Stop(n),
+        KeyRead::At { start, len, next } => BoundRead::At(
+            BoundSpan {
+                kind,
+                at: start,
+                len,
+            },
+            next,
+        ),
+    }
 }
 
 // What reading a range finds: its bounds, and the place past it.
@@ -115,6 +89,7 @@ pub enum RangeRead {
 }
 
 // The range at a place.
+#[tactic(auto, using(crate::proofs::Ranges::range_exits))]
 pub fn range_at(s: &[u8], at: usize) -> RangeRead
     ensures { RangeFound s.now (read_range (drop at s.now)) result }
 {
@@ -134,6 +109,7 @@ pub fn range_at(s: &[u8], at: usize) -> RangeRead
 }
 
 // The range that is the whole of a buffer.
+#[tactic(auto, using(crate::proofs::Ranges::bytes_left), unfolding(crate::specs::Whole::whole))]
 pub fn range_whole(s: &[u8]) -> RangeRead
     ensures { RangeWhole s.now result }
 {
@@ -156,7 +132,5 @@ pub fn key_of(s: &[u8], b: BoundSpan) -> &[u8]
     requires { BoundInside s.now b }
     ensures { result.now ≡ take b.len (drop b.at s.now) }
 {
-    let at = b.at;
-    let end = at + b.len;
-    &s[at..end]
+    &s[b.at..b.at + b.len]
 }

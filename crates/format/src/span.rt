@@ -7,8 +7,8 @@ ghost use Rattle.format.specs.Joint as joint;
 ghost use Rattle.format.specs.Span.{SuppliedInside, supplied_bound, bound_key, JointInside, joint_in, MetFound, JoinedInside, joint_of, start_key_of, end_key_of, key_of};
 
 use crate::range::{BoundSpan, key_of};
-use comparable_range::{Kind, Side, Sides};
-use std::cmp::Ordering;
+use comparable_range::{Side, Sides, of};
+use key::Order;
 
 // A range whose bounds stand in one slice.
 #[derive(Clone, Copy)]
@@ -46,9 +46,7 @@ pub fn compare(a: &[u8], x: BoundSpan, b: &[u8], y: BoundSpan, start: bool) -> O
     requires fact_2 { BoundInside b.now y }
     ensures { result ≡ cmp_bound start (bound_in a.now x) (bound_in b.now y) }
 {
-    let kx = x.kind;
-    let ky = y.kind;
-    comparable_range::cmp_bound(kx, key_of(a, x), ky, key_of(b, y), start)
+    comparable_range::cmp_bound(x.kind, key_of(a, x), y.kind, key_of(b, y), start)
 }
 
 // Whether the range from one bound to another passes `non_empty`.
@@ -57,9 +55,7 @@ pub fn passes(a: &[u8], x: BoundSpan, b: &[u8], y: BoundSpan) -> bool
     requires fact_2 { BoundInside b.now y }
     ensures { result ≡ non_empty (record { start = bound_in a.now x; end = bound_in b.now y }) }
 {
-    let kx = x.kind;
-    let ky = y.kind;
-    comparable_range::non_empty(kx, key_of(a, x), ky, key_of(b, y))
+    comparable_range::non_empty(x.kind, key_of(a, x), y.kind, key_of(b, y))
 }
 
 // The greater of two starts; of equal ones, the second.
@@ -68,9 +64,7 @@ pub fn greater_start(a: &[u8], x: BoundSpan, b: &[u8], y: BoundSpan) -> Side
     requires fact_2 { BoundInside b.now y }
     ensures { result ≡ start_side (bound_in a.now x) (bound_in b.now y) }
 {
-    let kx = x.kind;
-    let ky = y.kind;
-    comparable_range::start_side(kx, key_of(a, x), ky, key_of(b, y))
+    comparable_range::start_side(x.kind, key_of(a, x), y.kind, key_of(b, y))
 }
 
 // The lesser of two ends; of equal ones, the first.
@@ -79,9 +73,7 @@ pub fn lesser_end(a: &[u8], x: BoundSpan, b: &[u8], y: BoundSpan) -> Side
     requires fact_2 { BoundInside b.now y }
     ensures { result ≡ end_side (bound_in a.now x) (bound_in b.now y) }
 {
-    let kx = x.kind;
-    let ky = y.kind;
-    comparable_range::end_side(kx, key_of(a, x), ky, key_of(b, y))
+    comparable_range::end_side(x.kind, key_of(a, x), y.kind, key_of(b, y))
 }
 
 // Which of two ranges supplies the start of their intersection, and which the end.
@@ -92,23 +84,15 @@ pub fn intersect<'a>(a: &'a [u8], r: RangeSpan, b: &'a [u8], q: RangeSpan) -> Si
     requires fact_4 { BoundInside b.now q.end }
     ensures { result ≡ intersect_sides (range_in a.now r.start r.end) (range_in b.now q.start q.end) }
 {
-    let s = r.start;
-    let e = r.end;
-    let t = q.start;
-    let f = q.end;
-    let ks = s.kind;
-    let ke = e.kind;
-    let js = t.kind;
-    let je = f.kind;
     comparable_range::intersect(
-        ks,
-        key_of(a, s),
-        ke,
-        key_of(a, e),
-        js,
-        key_of(b, t),
-        je,
-        key_of(b, f),
+        r.start.kind,
+        key_of(a, r.start),
+        r.end.kind,
+        key_of(a, r.end),
+        q.start.kind,
+        key_of(b, q.start),
+        q.end.kind,
+        key_of(b, q.end),
     )
 }
 
@@ -120,27 +104,20 @@ pub fn union<'a>(a: &'a [u8], r: RangeSpan, b: &'a [u8], q: RangeSpan) -> Sides
     requires fact_4 { BoundInside b.now q.end }
     ensures { result ≡ union_sides (range_in a.now r.start r.end) (range_in b.now q.start q.end) }
 {
-    let s = r.start;
-    let e = r.end;
-    let t = q.start;
-    let f = q.end;
-    let ks = s.kind;
-    let ke = e.kind;
-    let js = t.kind;
-    let je = f.kind;
     comparable_range::union(
-        ks,
-        key_of(a, s),
-        ke,
-        key_of(a, e),
-        js,
-        key_of(b, t),
-        je,
-        key_of(b, f),
+        r.start.kind,
+        key_of(a, r.start),
+        r.end.kind,
+        key_of(a, r.end),
+        q.start.kind,
+        key_of(b, q.start),
+        q.end.kind,
+        key_of(b, q.end),
     )
 }
 
 // Whether two ranges have an intersection.
+#[tactic(auto, using(crate::proofs::Spans::meet_exits))]
 pub fn meets<'a>(a: &'a [u8], r: RangeSpan, b: &'a [u8], q: RangeSpan) -> bool
     requires fact_1 { BoundInside a.now r.start }
     requires fact_2 { BoundInside a.now r.end }
@@ -148,10 +125,7 @@ pub fn meets<'a>(a: &'a [u8], r: RangeSpan, b: &'a [u8], q: RangeSpan) -> bool
     requires fact_4 { BoundInside b.now q.end }
     ensures { result ≡ non_empty (overlap (range_in a.now r.start r.end) (range_in b.now q.start q.end)) }
 {
-    match intersect(a, r, b, q) {
-        Sides::Nothing => false,
-        Sides::From(_, _) => true,
-    }
+    matches!(intersect(a, r, b, q), Sides::From(_, _))
 }
 
 // Whether a range holds a key.
@@ -160,38 +134,27 @@ pub fn holds(s: &[u8], r: RangeSpan, key: &[u8]) -> bool
     requires fact_2 { BoundInside s.now r.end }
     ensures { result ≡ range.holds (range_in s.now r.start r.end) key.now }
 {
-    let x = r.start;
-    let y = r.end;
-    let kx = x.kind;
-    let ky = y.kind;
-    comparable_range::contains(kx, key_of(s, x), ky, key_of(s, y), key)
+    comparable_range::contains(
+        r.start.kind,
+        key_of(s, r.start),
+        r.end.kind,
+        key_of(s, r.end),
+        key,
+    )
 }
 
 // Of two bounds, the one of a side.
 pub fn bound_of(side: Side, x: BoundSpan, y: BoundSpan) -> BoundSpan
     ensures { result ≡ of side x y }
 {
-    match side {
-        Side::First => x,
-        Side::Second => y,
-    }
+    of(side, x, y)
 }
 
 // Of two slices, the one of a side.
 pub fn slice_of<'a>(side: Side, a: &'a [u8], b: &'a [u8]) -> &'a [u8]
     ensures { result.now ≡ of side a.now b.now }
 {
-    match side {
-        Side::First => a,
-        Side::Second => b,
-    }
-}
-
-fn supplied_kind(x: Supplied) -> Kind
-    ensures { result ≡ x.bound.kind }
-{
-    let bound = x.bound;
-    bound.kind
+    of(side, a, b)
 }
 
 // The key of a bound, as a part of the slice that it stands in; an empty part if it has none.
@@ -199,11 +162,11 @@ pub fn bound_key(s: &[u8], b: BoundSpan) -> &[u8]
     requires { BoundInside s.now b }
     ensures { result.now ≡ bound_key (bound_in s.now b) }
 {
-    let kind = b.kind;
-    if comparable_range::keyed(kind) {
-        return key_of(s, b);
+    if comparable_range::keyed(b.kind) {
+        key_of(s, b)
+    } else {
+        &s[..0]
     }
-    &s[..0]
 }
 
 // The same of a bound that stands in one of two slices.
@@ -211,9 +174,7 @@ pub fn supplied_key<'a>(a: &'a [u8], b: &'a [u8], x: Supplied) -> &'a [u8]
     requires { SuppliedInside a.now b.now x }
     ensures { result.now ≡ bound_key (supplied_bound a.now b.now x) }
 {
-    let side = x.side;
-    let bound = x.bound;
-    bound_key(slice_of(side, a, b), bound)
+    bound_key(of(x.side, a, b), x.bound)
 }
 
 // The key of an intersection's start, as a part of the slice that supplied it; an empty part where there is none.
@@ -247,38 +208,26 @@ pub enum Met {
     At(JointSpan),
 }
 
-fn supplied_of(side: Side, x: Supplied, y: Supplied) -> Supplied
-    ensures { result ≡ of side x y }
-{
-    match side {
-        Side::First => x,
-        Side::Second => y,
-    }
-}
-
 // Which of two ranges whose bounds stand in two slices supplies the start of their intersection, and which the end.
 fn joint_sides<'a>(a: &'a [u8], b: &'a [u8], x: JointSpan, y: JointSpan) -> Sides
     requires fact_1 { JointInside a.now b.now x }
     requires fact_2 { JointInside a.now b.now y }
     ensures { result ≡ intersect_sides (joint.range (joint_in a.now b.now x)) (joint.range (joint_in a.now b.now y)) }
 {
-    let s = x.start;
-    let e = x.end;
-    let t = y.start;
-    let f = y.end;
     comparable_range::intersect(
-        supplied_kind(s),
-        supplied_key(a, b, s),
-        supplied_kind(e),
-        supplied_key(a, b, e),
-        supplied_kind(t),
-        supplied_key(a, b, t),
-        supplied_kind(f),
-        supplied_key(a, b, f),
+        x.start.bound.kind,
+        supplied_key(a, b, x.start),
+        x.end.bound.kind,
+        supplied_key(a, b, x.end),
+        y.start.bound.kind,
+        supplied_key(a, b, y.start),
+        y.end.bound.kind,
+        supplied_key(a, b, y.end),
     )
 }
 
 // The intersection of two such ranges: each bound keeps its supplier.
+#[tactic(auto, unfolding(crate::specs::Joint::intersect))]
 pub fn intersect_joint<'a>(a: &'a [u8], b: &'a [u8], x: JointSpan, y: JointSpan) -> Met
     requires fact_1 { JointInside a.now b.now x }
     requires fact_2 { JointInside a.now b.now y }
@@ -287,8 +236,8 @@ pub fn intersect_joint<'a>(a: &'a [u8], b: &'a [u8], x: JointSpan, y: JointSpan)
     match joint_sides(a, b, x, y) {
         Sides::Nothing => Met::Nothing,
         Sides::From(s, e) => Met::At(JointSpan {
-            start: supplied_of(s, x.start, y.start),
-            end: supplied_of(e, x.end, y.end),
+            start: of(s, x.start, y.start),
+            end: of(e, x.end, y.end),
         }),
     }
 }

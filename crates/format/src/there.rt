@@ -6,10 +6,11 @@ ghost use Rattle.format.specs.Key.{read_key};
 ghost use Rattle.format.specs.Range.{kind_of, read_bound};
 ghost use Rattle.format.specs.There.{KeyThere, BoundThere};
 
-use crate::{BoundSpan, front};
+use crate::{BoundSpan, big_endian};
 use comparable_range::Kind;
 
 // The number of n bytes.
+#[tactic(auto, using(crate::proofs::Digits::number_exits))]
 pub fn number_there(s: &[u8], at: usize, n: usize) -> u64
     requires fact_1 { n ≤ 8 }
     requires fact_2 { at + n ≤ length s.now }
@@ -17,9 +18,10 @@ pub fn number_there(s: &[u8], at: usize, n: usize) -> u64
 {
     // Eight bytes are one load.
     if n == 8 {
-        return key::word(s, at);
+        key::word(s, at)
+    } else {
+        big_endian(&s[at..at + n])
     }
-    front(&s[at..], n)
 }
 
 // Where a key's bytes stand. What comes after the key comes right after them.
@@ -29,6 +31,7 @@ pub struct KeySpan {
     pub len: usize,
 }
 
+#[tactic(auto, using(crate::proofs::ThereExits::key_there_exits))]
 pub fn key_there(s: &[u8], at: usize) -> KeySpan
     requires { T (is_got (read_key (drop at s.now))) }
     ensures { KeyThere s.now (read_key (drop at s.now)) result }
@@ -53,28 +56,24 @@ pub fn end_kind(head: u8) -> Kind
 fn kind_of(n: u8) -> Kind
     ensures { result ≡ kind_of n }
 {
-    if n == 0 {
-        return Kind::Unbounded;
+    match n {
+        0 => Kind::Unbounded,
+        1 => Kind::Included,
+        _ => Kind::Excluded,
     }
-    if n == 1 {
-        return Kind::Included;
-    }
-    Kind::Excluded
 }
 
 // The bound of a kind. What comes after it comes right after its key, or where it stands if it has none.
+#[tactic(auto, unfolding(crate::specs::Range::read_bound))]
 pub fn bound_there(kind: Kind, s: &[u8], at: usize) -> BoundSpan
     requires fact_1 { at ≤ length s.now }
     requires fact_2 { T (is_got (read_bound kind (drop at s.now))) }
     ensures { BoundThere s.now (read_bound kind (drop at s.now)) result }
 {
     if comparable_range::keyed(kind) {
-        let key = key_there(s, at);
-        return BoundSpan {
-            kind,
-            at: key.at,
-            len: key.len,
-        };
+        let KeySpan { at, len } = key_there(s, at);
+        BoundSpan { kind, at, len }
+    } else {
+        BoundSpan { kind, at, len: 0 }
     }
-    BoundSpan { kind, at, len: 0 }
 }

@@ -15,29 +15,24 @@ pub fn put(out: &mut [u8], at: usize, src: &[u8])
     requires { at + length src.now ≤ length out.old }
     ensures { out.new ≡ splice out.old at src.now }
 {
-    let mut i = 0;
-    while i < src.len() {
-        let v = src[i];
-        out[at + i] = v;
-        i += 1;
-    }
+    out[at..at + src.len()].copy_from_slice(src);
 }
 
 // The number v in n bytes, the last one first.
+#[tactic(auto, using(crate::proofs::Puts::counts))]
 pub fn put_number(out: &mut [u8], at: usize, v: u64, n: usize)
     requires { at + n ≤ length out.old }
     ensures { out.new ≡ splice out.old at (write_number n v) }
 {
     let mut rest = v;
-    let mut i = n;
-    while 0 < i {
-        i -= 1;
-        out[at + i] = (rest % 256) as u8;
-        rest = rest / 256;
+    for i in (at..at + n).rev() {
+        out[i] = (rest % 256) as u8;
+        rest /= 256;
     }
 }
 
 // The key that is p and then q; answers the place past it.
+#[tactic(auto, using(crate::proofs::Puts::key_puts))]
 pub fn put_key(out: &mut [u8], at: usize, p: &[u8], q: &[u8]) -> usize
     requires fact_1 { length p.now + length q.now ≤ 1024 }
     requires fact_2 { at + length (write_key (p.now ++ q.now)) ≤ length out.old }

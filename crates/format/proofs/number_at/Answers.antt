@@ -1,23 +1,14 @@
--- `format::number_at` meets its contract.
+-- `format::number_at` meets its contract: the number is there where neither test of the `||` holds.
 -- Assumes nothing.
-use Rattle.format.proofs.Digits.{number_exits}
-use borrow.Author.Rules.{rules}
+use mathlib.Core.Path.{sym, ◌∙◌}
+use borrow.Author.Tests.{lt-ltb, ltb-false, both_ways}
+use Rattle.format.proofs.Digits.{number_read}
 use Rattle.format.proofs.number_at.Goals as goal
+use Rattle.format.proofs.number_at.Goals.{then-s-at, else-s-at}
 
-pub returns-then-s-at : goal.returns-then-s-at
-returns-then-s-at c = search (rules, number_exits)
-
-pub overflow_sub-s : goal.overflow_sub-s
-overflow_sub-s c = search (rules, number_exits)
-
-pub returns-then-s-at-2 : goal.returns-then-s-at-2
-returns-then-s-at-2 c = search (rules, number_exits)
-
-pub slice_bounds-front-count : goal.slice_bounds-front-count
-slice_bounds-front-count c = search (rules, number_exits)
-
-pub front-requires : goal.front-requires
-front-requires c = search (rules, number_exits)
-
-pub returns : goal.returns
-returns c = search (rules, number_exits)
+pub returns-else-s-at-2 : goal.returns-else-s-at-2
+returns-else-s-at-2 c =
+    elim c.if-s-at.branch [
+      | then-s-at w ↦ absurd (both_ways _ c.if-s-at-2.false (w.value-is ∙ lt-ltb _ _ w.if-s-at.true))
+      | else-s-at w ↦ number_read _ _ _ c.big_endian.ensures w.if-s-at.false (ltb-false _ _ (sym w.value-is ∙ c.if-s-at-2.false))
+    ]
