@@ -21,7 +21,7 @@ ghost use Rattle.bilqarush.specs.Answers.{order_of, BothFound, joined_by, point_
 pub use base::Tested;
 use base::Written;
 pub use commits::commit;
-use comparable_range::{Kind, Sides};
+use comparable_range::{Kind, Side};
 pub use format::span::Joined;
 use format::span::{RangeSpan, Supplied};
 use format::{Given, RangeRead, span};
@@ -182,12 +182,12 @@ fn ranges_given(a: &[u8], b: &[u8]) -> Both
 }
 
 // The range whose bounds the sides supply.
-fn from_sides(sides: Sides, r: RangeSpan, q: RangeSpan) -> Joined
+fn from_sides(sides: Option<(Side, Side)>, r: RangeSpan, q: RangeSpan) -> Joined
     ensures { result ≡ joined_by sides r q }
 {
     match sides {
-        Sides::Nothing => Joined::Nothing,
-        Sides::From(x, y) => Joined::Range(
+        None => Joined::Nothing,
+        Some((x, y)) => Joined::Range(
             Supplied {
                 side: x,
                 bound: span::bound_of(x, r.start, q.start),

@@ -27,7 +27,7 @@ fn is_key(job: &[u8], b: BoundSpan, k: BoundSpan) -> bool
     requires fact_2 { BoundInside job.now k }
     ensures { result ≡ is_key (key_of (bound_in job.now b)) (take k.len (drop k.at job.now)) }
 {
-    keyed(b.kind) && key::is_equal(key::cmp(format::key_of(job, b), format::key_of(job, k)))
+    keyed(b.kind) && key::cmp(format::key_of(job, b), format::key_of(job, k)).is_eq()
 }
 
 // The row of a part. Completed, all that was planned is durable; or else what lies before the last written key, if that is

@@ -35,8 +35,8 @@ fn output_between(job: &[u8], start: BoundSpan, end: BoundSpan, t: TableSpan) ->
     requires fact_3 { TableInside job.now t }
     ensures { result ≡ output_between (end_cut (bound_in job.now end)) (start_cut (bound_in job.now start)) (table_in job.now t) }
 {
-    key::at_most(span::compare(job, start, job, own_start(t), true))
-        && key::at_most(span::compare(job, own_end(t), job, end, false))
+    span::compare(job, start, job, own_start(t), true).is_le()
+        && span::compare(job, own_end(t), job, end, false).is_le()
         && t.flagged
 }
 

@@ -75,8 +75,8 @@ pub fn meet<'a>(image: &'a [u8], range: RangeSpan, job: &'a [u8], gap: RangeSpan
     ensures { MeetingIs (range_in image.now range.start range.end) (range_in job.now gap.start gap.end) result }
 {
     match span::compare(image, range.start, job, gap.start, true) {
-        Order::Less => meeting_ahead(image, range, job, gap),
-        Order::Equal => meeting_within(image, range, job, gap, Side::Second),
-        Order::Greater => meeting_within(image, range, job, gap, Side::First),
+        Ordering::Less => meeting_ahead(image, range, job, gap),
+        Ordering::Equal => meeting_within(image, range, job, gap, Side::Second),
+        Ordering::Greater => meeting_within(image, range, job, gap, Side::First),
     }
 }

@@ -10,7 +10,7 @@ use Rattle.comparable_range.specs.Range.{Range, bound_of, of, non_empty, overlap
 use Rattle.comparable_range.specs.declared.Side.{Side}
 use Rattle.comparable_range.specs.declared.Side.TheVariants.{First, Second}
 use Rattle.comparable_range.specs.Range.{Sides}
-use Rattle.std.specs.Prelude.{None, Some}
+use Rattle.std.specs.Prelude.{Bool, is_some}
 use Rattle.comparable_range.proofs.Unions.{meets_is}
 use Rattle.format.specs.Range.{bound_in, BoundInside}
 use Rattle.format.specs.declared.range.BoundSpan.{BoundSpan}
@@ -20,17 +20,10 @@ part s b = take b.len (drop b.at s)
 
 -- ---- meets
 module _ (r q : Range) {w : Sides} (h : w ≡ intersect_sides r q) where
-  pub meet_not : ((s e : Side) → w ≡ From s e → ⊥) → false ≡ non_empty (overlap r q)
-  meet_not f = sym (go w f) ∙ ap meets h ∙ meets_is r q
-    where
-      go : (w : Sides) → ((s e : Side) → w ≡ From s e → ⊥) → meets w ≡ false
-      go Nothing f = refl
-      go (From s e) f = absurd (f s e refl)
+  pub meets_lem : {t : Bool} → t ≡ is_some w → t ≡ non_empty (overlap r q)
+  meets_lem e = e ∙ ap meets h ∙ meets_is r q
 
-  pub meet : {s e : Side} → w ≡ Some (s, e) → true ≡ non_empty (overlap r q)
-  meet {s} {e} k = sym (ap meets (sym h ∙ k)) ∙ meets_is r q
-
-pub ruleset meet_exits = (meet_not, meet)
+pub ruleset meet_exits = (meets_lem)
 
 -- ---- bound_of, slice_of: the bound of a side stands in the slice of that side
 module _ (d : Side) (a b : List ℕ) (x y : BoundSpan) {s : List ℕ} {o : BoundSpan} (h : s ≡ of d a b) (k : o ≡ of d x y) where

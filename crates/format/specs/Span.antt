@@ -8,8 +8,7 @@ use Rattle.format.specs.Range.{BoundInside, bound_in}
 use Rattle.format.specs.Joint.{Supply, Joint}
 use Rattle.format.specs.declared.span.Supplied.{Supplied}
 use Rattle.format.specs.declared.span.JointSpan.{JointSpan}
-use Rattle.format.specs.declared.span.Met.{Met}
-use Rattle.format.specs.declared.span.Met.TheVariants.{Nothing, At}
+use Rattle.std.specs.Prelude.{Option as Optional, None, Some}
 use Rattle.format.specs.declared.span.Joined.{Joined}
 use Rattle.format.specs.declared.span.Joined.TheVariants.{Range as JoinedRange, Nothing as NoRange, Stop}
 
@@ -38,13 +37,16 @@ pub record JointInside (a b : List ℕ) (j : JointSpan) : Type 0 where
   pub end : SuppliedInside a b j.end
 
 -- ---- an intersection
+abbrev pub Met : Type 0
+Met = Optional JointSpan
+
 abbrev pub met_in : List ℕ → List ℕ → Met → Option Joint
-met_in a b Nothing = none
-met_in a b (At j) = some (joint_in a b j)
+met_in a b None = none
+met_in a b (Some j) = some (joint_in a b j)
 
 abbrev pub MetInside : List ℕ → List ℕ → Met → Type 0
-MetInside a b Nothing = Unit
-MetInside a b (At j) = JointInside a b j
+MetInside a b None = Unit
+MetInside a b (Some j) = JointInside a b j
 
 -- the intersection is the one that the answer tells of, and its bounds stand where the answer says
 pub record MetFound (a b : List ℕ) (o : Option Joint) (r : Met) : Type 0 where

@@ -7,8 +7,8 @@ ghost use Rattle.format.specs.Joint as joint;
 ghost use Rattle.format.specs.Span.{SuppliedInside, supplied_bound, bound_key, JointInside, joint_in, MetFound, JoinedInside, joint_of, start_key_of, end_key_of, key_of};
 
 use crate::range::{BoundSpan, key_of};
-use comparable_range::{Side, Sides, of};
-use key::Order;
+use comparable_range::{Side, of};
+use std::cmp::Ordering;
 
 // A range whose bounds stand in one slice.
 #[derive(Clone, Copy)]
@@ -77,7 +77,7 @@ pub fn lesser_end(a: &[u8], x: BoundSpan, b: &[u8], y: BoundSpan) -> Side
 }
 
 // Which of two ranges supplies the start of their intersection, and which the end.
-pub fn intersect<'a>(a: &'a [u8], r: RangeSpan, b: &'a [u8], q: RangeSpan) -> Sides
+pub fn intersect<'a>(a: &'a [u8], r: RangeSpan, b: &'a [u8], q: RangeSpan) -> Option<(Side, Side)>
     requires fact_1 { BoundInside a.now r.start }
     requires fact_2 { BoundInside a.now r.end }
     requires fact_3 { BoundInside b.now q.start }
@@ -97,7 +97,7 @@ pub fn intersect<'a>(a: &'a [u8], r: RangeSpan, b: &'a [u8], q: RangeSpan) -> Si
 }
 
 // The same of their union.
-pub fn union<'a>(a: &'a [u8], r: RangeSpan, b: &'a [u8], q: RangeSpan) -> Sides
+pub fn union<'a>(a: &'a [u8], r: RangeSpan, b: &'a [u8], q: RangeSpan) -> Option<(Side, Side)>
     requires fact_1 { BoundInside a.now r.start }
     requires fact_2 { BoundInside a.now r.end }
     requires fact_3 { BoundInside b.now q.start }
@@ -125,7 +125,7 @@ pub fn meets<'a>(a: &'a [u8], r: RangeSpan, b: &'a [u8], q: RangeSpan) -> bool
     requires fact_4 { BoundInside b.now q.end }
     ensures { result ≡ non_empty (overlap (range_in a.now r.start r.end) (range_in b.now q.start q.end)) }
 {
-    matches!(intersect(a, r, b, q), Sides::From(_, _))
+    intersect(a, r, b, q).is_some()
 }
 
 // Whether a range holds a key.
@@ -201,15 +201,8 @@ pub fn end_part<'a>(a: &'a [u8], b: &'a [u8], joined: Joined) -> &'a [u8]
     }
 }
 
-// What two ranges have in common, if there is something: each bound as it was supplied.
-#[derive(Clone, Copy)]
-pub enum Met {
-    Nothing,
-    At(JointSpan),
-}
-
 // Which of two ranges whose bounds stand in two slices supplies the start of their intersection, and which the end.
-fn joint_sides<'a>(a: &'a [u8], b: &'a [u8], x: JointSpan, y: JointSpan) -> Sides
+fn joint_sides<'a>(a: &'a [u8], b: &'a [u8], x: JointSpan, y: JointSpan) -> Option<(Side, Side)>
     requires fact_1 { JointInside a.now b.now x }
     requires fact_2 { JointInside a.now b.now y }
     ensures { result ≡ intersect_sides (joint.range (joint_in a.now b.now x)) (joint.range (joint_in a.now b.now y)) }
@@ -228,16 +221,19 @@ fn joint_sides<'a>(a: &'a [u8], b: &'a [u8], x: JointSpan, y: JointSpan) -> Side
 
 // The intersection of two such ranges: each bound keeps its supplier.
 #[tactic(auto, unfolding(crate::specs::Joint::intersect))]
-pub fn intersect_joint<'a>(a: &'a [u8], b: &'a [u8], x: JointSpan, y: JointSpan) -> Met
+pub fn intersect_joint<'a>(
+    a: &'a [u8],
+    b: &'a [u8],
+    x: JointSpan,
+    y: JointSpan,
+) -> Option<JointSpan>
     requires fact_1 { JointInside a.now b.now x }
     requires fact_2 { JointInside a.now b.now y }
     ensures { MetFound a.now b.now (joint.intersect (joint_in a.now b.now x) (joint_in a.now b.now y)) result }
 {
-    match joint_sides(a, b, x, y) {
-        Sides::Nothing => Met::Nothing,
-        Sides::From(s, e) => Met::At(JointSpan {
-            start: of(s, x.start, y.start),
-            end: of(e, x.end, y.end),
-        }),
-    }
+    let (s, e) = joint_sides(a, b, x, y)?;
+    Some(JointSpan {
+        start: of(s, x.start, y.start),
+        end: of(e, x.end, y.end),
+    })
 }

@@ -19,8 +19,8 @@ use Rattle.format.specs.Span.{joint_in, JointInside, met_in, MetInside, MetFound
 use Rattle.format.specs.declared.range.BoundSpan.{BoundSpan}
 use Rattle.format.specs.declared.span.RangeSpan.{RangeSpan}
 use Rattle.format.specs.declared.span.JointSpan.{JointSpan}
-use Rattle.format.specs.declared.span.Met.{Met}
-use Rattle.format.specs.declared.span.Met.TheVariants.{Nothing, At}
+use Rattle.format.specs.Span.{Met}
+use Rattle.std.specs.Prelude.{None, Some}
 use Rattle.format.specs.declared.span.Joined.{Joined}
 use Rattle.format.specs.declared.span.Joined.TheVariants.{Range as JoinedRange}
 use Rattle.records.specs.Spans.{view_in, ViewInside}
@@ -87,7 +87,7 @@ module _ (a b : List ℕ) (v : ViewSpan) (asked : RangeSpan) {x : JointSpan} (p 
           inside = f.inside;
         }
 
-  pub not_cut : v.shown ≡ false → v.table.flagged ≡ false → SpanInside b asked → MetFound a b (calculate_view_range (view_in a v) (range_at b asked)) (At x)
+  pub not_cut : v.shown ≡ false → v.table.flagged ≡ false → SpanInside b asked → MetFound a b (calculate_view_range (view_in a v) (range_at b asked)) (Some x)
   unfolding calculate_view_range
   not_cut h k i = record { meaning = rw (p, h, k); inside = asked_inside a b asked p i }
 
@@ -95,14 +95,14 @@ pub ruleset cut_exits = (asked_inside, visible_inside, effective_inside, shown_c
 
 -- ---- cut_to_visible
 module _ (a b : List ℕ) (v : ViewSpan) {m : Met} where
-  pub none_left : m ≡ Nothing → MetFound a b (cut_to_visible (view_in a v).visible (met_in a b m)) Nothing
+  pub none_left : m ≡ None → MetFound a b (cut_to_visible (view_in a v).visible (met_in a b m)) None
   none_left h = record { meaning = rw h; inside = tt }
 
-  module _ {j : JointSpan} (h : m ≡ At j) where
+  module _ {j : JointSpan} (h : m ≡ Some j) where
     pub at_inside : MetInside a b m → JointInside a b j
     at_inside i = rw h at i
 
-    pub not_shown : v.shown ≡ false → MetInside a b m → MetFound a b (cut_to_visible (view_in a v).visible (met_in a b m)) (At j)
+    pub not_shown : v.shown ≡ false → MetInside a b m → MetFound a b (cut_to_visible (view_in a v).visible (met_in a b m)) (Some j)
     not_shown k i = record { meaning = rw (h, k); inside = at_inside i }
 
     pub shown :
@@ -158,11 +158,11 @@ pub joined_found : (a b : List ℕ) {o : Option Joint} {m : Met} {j : Joined} �
 joined_found a b {o} {m} f e = rw e (go m f)
   where
     go : (m : Met) → MetFound a b o m → JointFound a b (answer o) (joined_of m)
-    go Nothing f = record { meaning = ap answer f.meaning; inside = tt }
-    go (At j) f = record { meaning = ap answer f.meaning; inside = (f.inside.start, f.inside.end) }
+    go None f = record { meaning = ap answer f.meaning; inside = tt }
+    go (Some j) f = record { meaning = ap answer f.meaning; inside = (f.inside.start, f.inside.end) }
 
 pub same_found : (a b : List ℕ) {g h : Outcome (Option Joint)} {j : Joined} → g ≡ h → JointFound a b h j → JointFound a b g j
 same_found a b e f = record { meaning = f.meaning ∙ sym e; inside = f.inside }
 
-pub joined_at : {m : Met} {j : JointSpan} → m ≡ At j → JoinedRange j.start j.end ≡ joined_of m
+pub joined_at : {m : Met} {j : JointSpan} → m ≡ Some j → JoinedRange j.start j.end ≡ joined_of m
 joined_at e = rw e

@@ -14,7 +14,7 @@ use Rattle.format.specs.Range.{BoundInside}
 use Rattle.format.specs.Span.{MetFound, JointFound}
 use Rattle.format.specs.declared.range.BoundSpan.{BoundSpan}
 use Rattle.format.specs.declared.span.RangeSpan.{RangeSpan}
-use Rattle.format.specs.declared.span.Met.{Met}
+use Rattle.format.specs.Span.{Met}
 use Rattle.format.specs.declared.span.Joined.{Joined}
 use Rattle.format.specs.declared.span.Joined.TheVariants.{Stop as JoinedStop}
 use Rattle.records.specs.Form.{read_many}

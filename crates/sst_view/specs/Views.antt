@@ -15,8 +15,8 @@ use Rattle.format.specs.Joint as joint
 use Rattle.format.specs.declared.range.BoundSpan.{BoundSpan}
 use Rattle.format.specs.declared.span.RangeSpan.{RangeSpan}
 use Rattle.format.specs.declared.span.JointSpan.{JointSpan}
-use Rattle.format.specs.declared.span.Met.{Met}
-use Rattle.format.specs.declared.span.Met.TheVariants.{Nothing, At}
+use Rattle.format.specs.Span.{Met}
+use Rattle.std.specs.Prelude.{None, Some}
 use Rattle.format.specs.declared.span.Joined.{Joined}
 use Rattle.format.specs.declared.span.Joined.TheVariants.{Range as JoinedRange, Nothing as NoRange}
 use Rattle.records.specs.Values.{View}
@@ -62,5 +62,5 @@ visible_span v = record { start = v.start; end = v.end }
 
 -- an intersection, as a call answers it
 abbrev pub joined_of : Met → Joined
-joined_of Nothing = NoRange
-joined_of (At j) = JoinedRange j.start j.end
+joined_of None = NoRange
+joined_of (Some j) = JoinedRange j.start j.end

@@ -23,9 +23,7 @@ use crate::places::{RunPlaced, run_in_image, view_in_image};
 use base::Tested;
 use comparable_range::{Kind, Side};
 use format::BoundSpan;
-use format::span::{
-    Joined, JointSpan, Met, RangeSpan, Supplied, bound_of, intersect_joint, slice_of,
-};
+use format::span::{Joined, JointSpan, RangeSpan, Supplied, bound_of, intersect_joint, slice_of};
 use manifest::effective;
 use records::{RunSpan, ViewRead, ViewSpan};
 
@@ -101,17 +99,22 @@ fn visible(v: ViewSpan) -> RangeSpan
 }
 
 // An intersection, as a call answers it.
-fn joined(m: Met) -> Joined
+fn joined(m: Option<JointSpan>) -> Joined
     ensures { result ≡ joined_of m }
 {
     match m {
-        Met::Nothing => Joined::Nothing,
-        Met::At(j) => Joined::Range(j.start, j.end),
+        None => Joined::Nothing,
+        Some(j) => Joined::Range(j.start, j.end),
     }
 }
 
 // What a range of the image and the asked range have in common.
-fn intersect_asked<'a>(image: &'a [u8], r: RangeSpan, range: &'a [u8], asked: RangeSpan) -> Met
+fn intersect_asked<'a>(
+    image: &'a [u8],
+    r: RangeSpan,
+    range: &'a [u8],
+    asked: RangeSpan,
+) -> Option<JointSpan>
     requires fact_1 { SpanInside image.now r }
     requires fact_2 { SpanInside range.now asked }
     ensures { MetFound image.now range.now (joint.intersect (supplied First (range_at image.now r)) (supplied Second (range_at range.now asked))) result }
@@ -125,7 +128,12 @@ fn intersect_asked<'a>(image: &'a [u8], r: RangeSpan, range: &'a [u8], asked: Ra
 }
 
 // The asked range cut by a view's visible range; without one, by the effective range of a table that has a last key.
-fn cut_to_view<'a>(image: &'a [u8], v: ViewSpan, range: &'a [u8], asked: RangeSpan) -> Met
+fn cut_to_view<'a>(
+    image: &'a [u8],
+    v: ViewSpan,
+    range: &'a [u8],
+    asked: RangeSpan,
+) -> Option<JointSpan>
     requires fact_1 { ViewInside image.now v }
     requires fact_2 { SpanInside range.now asked }
     ensures { MetFound image.now range.now (calculate_view_range (view_in image.now v) (range_at range.now asked)) result }
@@ -136,7 +144,7 @@ fn cut_to_view<'a>(image: &'a [u8], v: ViewSpan, range: &'a [u8], asked: RangeSp
     } else if v.table.flagged {
         intersect_joint(image, range, given, from(Side::First, effective(image, v)))
     } else {
-        Met::At(given)
+        Some(given)
     }
 }
 
@@ -155,14 +163,19 @@ pub fn calculate_view_range<'a>(image: &'a [u8], run: usize, view: usize, range:
 }
 
 // An intersection cut by a view's visible range, if it has one: a gap that an earlier projection left stays.
-fn cut_to_visible<'a>(image: &'a [u8], v: ViewSpan, range: &'a [u8], m: Met) -> Met
+fn cut_to_visible<'a>(
+    image: &'a [u8],
+    v: ViewSpan,
+    range: &'a [u8],
+    m: Option<JointSpan>,
+) -> Option<JointSpan>
     requires fact_1 { ViewInside image.now v }
     requires fact_2 { MetInside image.now range.now m }
     ensures { MetFound image.now range.now (cut_to_visible (view_in image.now v).visible (met_in image.now range.now m)) result }
 {
     match m {
-        Met::At(j) if v.shown => intersect_joint(image, range, j, from(Side::First, visible(v))),
-        Met::At(_) | Met::Nothing => m,
+        Some(j) if v.shown => intersect_joint(image, range, j, from(Side::First, visible(v))),
+        Some(_) | None => m,
     }
 }
 
@@ -174,7 +187,7 @@ fn cut_to_next<'a>(
     next: BoundSpan,
     range: &'a [u8],
     asked: RangeSpan,
-) -> Met
+) -> Option<JointSpan>
     requires fact_1 { ViewInside image.now v }
     requires fact_2 { EffectiveFound image.now v own }
     requires fact_3 { BoundInside image.now next }
@@ -196,7 +209,7 @@ fn view_kept<'a>(
     place: usize,
     range: &'a [u8],
     asked: RangeSpan,
-) -> Met
+) -> Option<JointSpan>
     requires fact_1 { RunInside image.now r }
     requires fact_2 { place < r.views }
     requires fact_3 { SpanInside range.now asked }

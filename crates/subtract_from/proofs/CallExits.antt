@@ -15,7 +15,7 @@ use Rattle.format.specs.Whole.{whole}
 use Rattle.format.specs.declared.range.BoundSpan.{BoundSpan}
 use Rattle.format.specs.declared.range.RangeRead.{RangeRead}
 use Rattle.format.specs.declared.range.RangeRead.TheVariants.{At as RangeAt, Stop as RangeStop}
-use Rattle.format.specs.declared.span.Met.{Met}
+use Rattle.format.specs.Span.{Met}
 use Rattle.records.specs.Layouts.{plan}
 use Rattle.manifest.proofs.Given.{whole_read}
 use Rattle.incremental_progress.specs.Intervals.{part_before, part_from, subtract_from}

@@ -17,8 +17,7 @@ use Rattle.std.specs.Prelude.{None, Some}
 use Rattle.format.specs.Range.{bound_in, range_in, BoundInside}
 use Rattle.format.specs.declared.range.BoundSpan.{BoundSpan}
 use Rattle.format.specs.declared.span.RangeSpan.{RangeSpan}
-use Rattle.format.specs.declared.span.Met.{Met}
-use Rattle.format.specs.declared.span.Met.TheVariants.{Nothing, At}
+use Rattle.format.specs.Span.{Met}
 use Rattle.format.proofs.Spans.{side_inside, side_bound}
 use Rattle.incremental_progress.specs.Intervals.{part_before, part_from}
 use Rattle.incremental_progress.specs.Parts.{key_of}
@@ -26,7 +25,7 @@ use Rattle.subtract_from.specs.Found.{PartFound}
 
 -- ---- cut
 module _ (a b : List ℕ) (r q : RangeSpan) {w : Sides} (h : w ≡ intersect_sides (range_in a r.start r.end) (range_in b q.start q.end)) where
-  pub cut_none : w ≡ None → PartFound a b (intersect (range_in a r.start r.end) (range_in b q.start q.end)) Nothing
+  pub cut_none : w ≡ None → PartFound a b (intersect (range_in a r.start r.end) (range_in b q.start q.end)) None
   cut_none e = record { meaning = rw (← h, e); inside = tt }
 
   pub cut_met :
@@ -38,7 +37,7 @@ module _ (a b : List ℕ) (r q : RangeSpan) {w : Sides} (h : w ≡ intersect_sid
       → BoundInside a r.end
       → BoundInside b q.start
       → BoundInside b q.end
-      → PartFound a b (intersect (range_in a r.start r.end) (range_in b q.start q.end)) (At (record { start = record { side = s; bound = u }; end = record { side = e; bound = v } }))
+      → PartFound a b (intersect (range_in a r.start r.end) (range_in b q.start q.end)) (Some (record { start = record { side = s; bound = u }; end = record { side = e; bound = v } }))
   cut_met {s} {e} {u} {v} p hu hv i j k l =
       record {
         meaning = rw (← h, p, hu, hv, side_bound s a b r.start q.start refl refl refl, side_bound e a b r.end q.end refl refl refl);
@@ -76,7 +75,7 @@ module _ (a b : List ℕ) (r : RangeSpan) (x : BoundSpan) {t : Bool} (e : t ≡ 
   unfolding part_before
   before_found w p = rw (is_some w) p
 
-  pub none_before : t ≡ false → PartFound a b (part_before (key_of (bound_in b x)) (range_in a r.start r.end)) Nothing
+  pub none_before : t ≡ false → PartFound a b (part_before (key_of (bound_in b x)) (range_in a r.start r.end)) None
   unfolding part_before
   none_before w = rw (is_none w) (record { meaning = refl; inside = tt })
 
@@ -84,7 +83,7 @@ module _ (a b : List ℕ) (r : RangeSpan) (x : BoundSpan) {t : Bool} (e : t ≡ 
   unfolding part_from
   from_found w p = rw (is_some w) p
 
-  pub none_from : t ≡ false → PartFound a b (part_from (key_of (bound_in b x)) (range_in a r.start r.end)) Nothing
+  pub none_from : t ≡ false → PartFound a b (part_from (key_of (bound_in b x)) (range_in a r.start r.end)) None
   unfolding part_from
   none_from w = rw (is_none w) (record { meaning = refl; inside = tt })
 

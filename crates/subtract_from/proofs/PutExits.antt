@@ -20,8 +20,8 @@ use Rattle.format.specs.Range.{write_range}
 use Rattle.format.specs.Span.{SuppliedInside, supplied_bound, bound_key, joint_in, MetInside}
 use Rattle.format.specs.declared.span.Supplied.{Supplied}
 use Rattle.format.specs.declared.span.JointSpan.{JointSpan}
-use Rattle.format.specs.declared.span.Met.{Met}
-use Rattle.format.specs.declared.span.Met.TheVariants.{Nothing, At}
+use Rattle.format.specs.Span.{Met}
+use Rattle.std.specs.Prelude.{None, Some}
 use Rattle.format.proofs.Joints.{supplied_bound_lem}
 use Rattle.format.proofs.Layouts.{number_length}
 use Rattle.records.specs.Form.{write_many}
@@ -50,13 +50,13 @@ key_small a b x {k} q i j =
     omega (arith, ap length q, n, slice_short x.bound.len x.bound.at s, side_short x.side a b i j)
 
 module _ (a b : List ℕ) {m : Met} where
-  pub no_size : m ≡ Nothing → 0 ≡ length (part_bytes (part_in a b m))
+  pub no_size : m ≡ None → 0 ≡ length (part_bytes (part_in a b m))
   no_size e = rw e
 
-  pub no_part : (d : List ℕ) (to : ℕ) → m ≡ Nothing → Put d to (part_bytes (part_in a b m)) d to
+  pub no_part : (d : List ℕ) (to : ℕ) → m ≡ None → Put d to (part_bytes (part_in a b m)) d to
   no_part d to e = put_same (put_none d to) (rw e)
 
-  module _ {j : JointSpan} (w : m ≡ At j) where
+  module _ {j : JointSpan} (w : m ≡ Some j) where
     pub start_there : MetInside a b m → SuppliedInside a b j.start
     start_there i = (rw w at i).start
 
@@ -87,10 +87,10 @@ pub ruleset put_exits = (no_part, start_there, end_there, part_room, part_put, p
 -- ---- put_parts: the count, and the parts
 pub parts_are : (a b : List ℕ) (m n : Met) → plan.write (parts_in a b m n) ≡ write_number 1 (part_count m + part_count n) ++ (part_bytes (part_in a b m) ++ part_bytes (part_in a b n))
 unfolding plan write_many
-parts_are a b Nothing Nothing = refl
-parts_are a b (At j) Nothing = refl
-parts_are a b Nothing (At k) = rw append-nil
-parts_are a b (At j) (At k) = rw (append-nil (write_range (joint.range (joint_in a b k))))
+parts_are a b None None = refl
+parts_are a b (Some j) None = refl
+parts_are a b None (Some k) = rw append-nil
+parts_are a b (Some j) (Some k) = rw (append-nil (write_range (joint.range (joint_in a b k))))
 
 module _ (a b : List ℕ) (m n : Met) (d : List ℕ) (room : length (plan.write (parts_in a b m n)) ≤ length d) where
   abbrev x : List ℕ

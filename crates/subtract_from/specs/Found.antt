@@ -7,16 +7,16 @@ use Rattle.format.specs.Joint as joint
 use Rattle.format.specs.Range.{range_in, write_range}
 use Rattle.format.specs.Span.{joint_in, MetInside}
 use Rattle.format.specs.declared.span.RangeSpan.{RangeSpan}
-use Rattle.format.specs.declared.span.Met.{Met}
-use Rattle.format.specs.declared.span.Met.TheVariants.{Nothing, At}
+use Rattle.format.specs.Span.{Met}
+use Rattle.std.specs.Prelude.{None, Some}
 use Rattle.incremental_progress.specs.Intervals.{listed}
 use Rattle.records.specs.Layouts.{plan}
 use Rattle.subtract_from.specs.SubtractCalls.{subtracted}
 
 -- the part, if there is one
 abbrev pub part_in : List ℕ → List ℕ → Met → Option Range
-part_in a b Nothing = none
-part_in a b (At j) = some (joint.range (joint_in a b j))
+part_in a b None = none
+part_in a b (Some j) = some (joint.range (joint_in a b j))
 
 pub record PartFound (a b : List ℕ) (o : Option Range) (m : Met) : Type 0 where
   pub meaning : part_in a b m ≡ o
@@ -28,8 +28,8 @@ part_bytes none = []
 part_bytes (some r) = write_range r
 
 abbrev pub part_count : Met → ℕ
-part_count Nothing = 0
-part_count (At j) = 1
+part_count None = 0
+part_count (Some j) = 1
 
 -- two parts, each if there is one
 abbrev pub parts_in : List ℕ → List ℕ → Met → Met → List Range

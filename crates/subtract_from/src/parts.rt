@@ -6,12 +6,12 @@ ghost use Rattle.incremental_progress.specs.Intervals.{part_before, part_from};
 ghost use Rattle.incremental_progress.specs.Parts.{key_of};
 ghost use Rattle.subtract_from.specs.Found.{PartFound};
 
-use comparable_range::{Kind, Sides, keyed};
-use format::span::{JointSpan, Met, RangeSpan, Supplied, bound_of};
+use comparable_range::{Kind, keyed};
+use format::span::{JointSpan, RangeSpan, Supplied, bound_of};
 use format::{BoundSpan, span};
 
 // What two ranges have in common.
-fn cut<'a>(a: &'a [u8], r: RangeSpan, b: &'a [u8], q: RangeSpan) -> Met
+fn cut<'a>(a: &'a [u8], r: RangeSpan, b: &'a [u8], q: RangeSpan) -> Option<JointSpan>
     requires fact_1 { BoundInside a.now r.start }
     requires fact_2 { BoundInside a.now r.end }
     requires fact_3 { BoundInside b.now q.start }
@@ -19,8 +19,8 @@ fn cut<'a>(a: &'a [u8], r: RangeSpan, b: &'a [u8], q: RangeSpan) -> Met
     ensures { PartFound a.now b.now (intersect (range_in a.now r.start r.end) (range_in b.now q.start q.end)) result }
 {
     match span::intersect(a, r, b, q) {
-        Sides::Nothing => Met::Nothing,
-        Sides::From(s, e) => Met::At(JointSpan {
+        None => None,
+        Some((s, e)) => Some(JointSpan {
             start: Supplied {
                 side: s,
                 bound: bound_of(s, r.start, q.start),
@@ -34,7 +34,12 @@ fn cut<'a>(a: &'a [u8], r: RangeSpan, b: &'a [u8], q: RangeSpan) -> Met
 }
 
 // The range's keys before the interval's start.
-pub fn part_before<'a>(range: &'a [u8], r: RangeSpan, interval: &'a [u8], start: BoundSpan) -> Met
+pub fn part_before<'a>(
+    range: &'a [u8],
+    r: RangeSpan,
+    interval: &'a [u8],
+    start: BoundSpan,
+) -> Option<JointSpan>
     requires fact_1 { BoundInside range.now r.start }
     requires fact_2 { BoundInside range.now r.end }
     requires fact_3 { BoundInside interval.now start }
@@ -56,11 +61,16 @@ pub fn part_before<'a>(range: &'a [u8], r: RangeSpan, interval: &'a [u8], start:
         };
         return cut(range, r, interval, below);
     }
-    Met::Nothing
+    None
 }
 
 // The range's keys from the interval's end on.
-pub fn part_from<'a>(range: &'a [u8], r: RangeSpan, interval: &'a [u8], end: BoundSpan) -> Met
+pub fn part_from<'a>(
+    range: &'a [u8],
+    r: RangeSpan,
+    interval: &'a [u8],
+    end: BoundSpan,
+) -> Option<JointSpan>
     requires fact_1 { BoundInside range.now r.start }
     requires fact_2 { BoundInside range.now r.end }
     requires fact_3 { BoundInside interval.now end }
@@ -82,5 +92,5 @@ pub fn part_from<'a>(range: &'a [u8], r: RangeSpan, interval: &'a [u8], end: Bou
         };
         return cut(range, r, interval, after);
     }
-    Met::Nothing
+    None
 }

@@ -7,18 +7,18 @@ ghost use Rattle.range_write.specs.Put.{Put};
 ghost use Rattle.subtract_from.specs.Found.{part_in, part_bytes, part_count, parts_in};
 
 use base::Written;
-use format::span::{Met, supplied_key};
+use format::span::{JointSpan, supplied_key};
 
 // How many bytes a part takes, if there is one.
-fn part_size<'a>(a: &'a [u8], b: &'a [u8], m: Met) -> usize
+fn part_size<'a>(a: &'a [u8], b: &'a [u8], m: Option<JointSpan>) -> usize
     requires fact_1 { MetInside a.now b.now m }
     requires fact_2 { length a.now ≤ 65536 }
     requires fact_3 { length b.now ≤ 65536 }
     ensures { (result ≡ length (part_bytes (part_in a.now b.now m))) × (result ≤ 131077) }
 {
     match m {
-        Met::Nothing => 0,
-        Met::At(j) => {
+        None => 0,
+        Some(j) => {
             let start = j.start;
             let end = j.end;
             let s = start.bound;
@@ -31,14 +31,14 @@ fn part_size<'a>(a: &'a [u8], b: &'a [u8], m: Met) -> usize
 }
 
 // Puts it, and answers the place past it.
-fn put_part<'a>(a: &'a [u8], b: &'a [u8], m: Met, out: &mut [u8], to: usize) -> usize
+fn put_part<'a>(a: &'a [u8], b: &'a [u8], m: Option<JointSpan>, out: &mut [u8], to: usize) -> usize
     requires fact_1 { MetInside a.now b.now m }
     requires fact_2 { to + length (part_bytes (part_in a.now b.now m)) ≤ length out.old }
     ensures { Put out.old to (part_bytes (part_in a.now b.now m)) out.new result }
 {
     match m {
-        Met::Nothing => to,
-        Met::At(j) => {
+        None => to,
+        Some(j) => {
             let start = j.start;
             let end = j.end;
             let s = start.bound;
@@ -57,17 +57,23 @@ fn put_part<'a>(a: &'a [u8], b: &'a [u8], m: Met, out: &mut [u8], to: usize) -> 
     }
 }
 
-fn part_count(m: Met) -> u64
+fn part_count(m: Option<JointSpan>) -> u64
     ensures { (result ≡ part_count m) × (result ≤ 1) }
 {
     match m {
-        Met::Nothing => 0,
-        Met::At(_) => 1,
+        None => 0,
+        Some(_) => 1,
     }
 }
 
 // The count of two parts, and those of them that there are.
-fn put_parts<'a>(a: &'a [u8], b: &'a [u8], before: Met, from: Met, out: &mut [u8])
+fn put_parts<'a>(
+    a: &'a [u8],
+    b: &'a [u8],
+    before: Option<JointSpan>,
+    from: Option<JointSpan>,
+    out: &mut [u8],
+)
     requires met_inside_1 { MetInside a.now b.now before }
     requires met_inside_2 { MetInside a.now b.now from }
     requires from_in_bounds { length (plan.write (parts_in a.now b.now before from)) ≤ length out.old }
@@ -82,8 +88,8 @@ fn put_parts<'a>(a: &'a [u8], b: &'a [u8], before: Met, from: Met, out: &mut [u8
 pub fn parts_written<'a>(
     a: &'a [u8],
     b: &'a [u8],
-    before: Met,
-    from: Met,
+    before: Option<JointSpan>,
+    from: Option<JointSpan>,
     out: &mut [u8],
 ) -> Written
     requires fact_1 { MetInside a.now b.now before }
