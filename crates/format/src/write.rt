@@ -4,6 +4,7 @@ ghost use Rattle.base.specs.Splice.{splice};
 ghost use Rattle.format.specs.Number.{write_number};
 ghost use Rattle.format.specs.Key.{write_key};
 
+#[tactic(auto, using(base::specs::Splice::set_is_splice))]
 pub fn put_byte(out: &mut [u8], at: usize, b: u8)
     requires { at < length out.old }
     ensures { out.new ≡ splice out.old at (b ∷ []) }
