@@ -1,18 +1,17 @@
 -- A total that stops at a limit; the total of anchors, some after others; and the exits of `added`.
 -- Assumes nothing.
-use Prim.Native.Nat.{ℕ, ◌+◌, ◌-◌, ◌^◌, ◌≤◌, ◌<◌}
+use Prim.Native.Nat.{ℕ, ◌+◌, ◌-◌, ◌^◌, ◌≤◌, ◌<◌, min}
 use native.Mathlib.Omega.{arith}
 use mathlib.Core.Path.{◌≡◌, refl, ◌∙◌, ap}
 use mathlib.Core.Bool.{Bool, true, false}
 use mathlib.Core.List.{[], ◌∷◌, ◌++◌}
 use lib.Dec.{ltb}
-use mir.Val.{Fits}
-use mir.Syntax.{w64}
-use borrow.Author.Tests.{lt-ltb, le-ltb, ltb-true, ltb-false}
+use borrow.Author.Tests.{le-ltb, ltb-true, ltb-false}
 use Rattle.base.specs.Pick.{pick}
 use Rattle.records.specs.Values.{Anchor, Anchors}
 use Rattle.manifest.specs.Checks.{total}
 use Rattle.manifest.specs.Faults.{least}
+use Rattle.manifest.proofs.Steps.{min_is_least}
 
 -- ---- a total that stops at a limit
 module _ (limit t : ℕ) where
@@ -51,19 +50,5 @@ unfolding total
 total_more seen a = let e : a.bytes + 0 ≡ a.bytes = omega arith in total_append seen (a ∷ []) ∙ ap (λ n. total seen + n) e
 
 -- ---- added
-module _ (t b : ℕ) where
-  pub within_limit : t ≤ 2 ^ 63 → t ≤ 9223372036854775808
-  within_limit h = omega arith
-
-  pub sum_fits : b < 9223372036854775808 - t → Fits w64 (t + b)
-  sum_fits h = omega arith
-
-  pub sum_exact : b < 9223372036854775808 - t → t + b ≡ least (t + b) (2 ^ 63)
-  unfolding least
-  sum_exact h = rw (lt-ltb (t + b) (2 ^ 63) (omega arith))
-
-  pub sum_reached : t ≤ 2 ^ 63 → 9223372036854775808 - t ≤ b → 9223372036854775808 ≡ least (t + b) (2 ^ 63)
-  unfolding least
-  sum_reached h k = rw (le-ltb (t + b) (2 ^ 63) (omega arith))
-
-pub ruleset added_exits = (within_limit, sum_fits, sum_exact, sum_reached)
+pub total_held : {m : ℕ} (t b : ℕ) → t ≤ 2 ^ 63 → m ≡ min b (2 ^ 63 - t) → t + m ≡ least (t + b) (2 ^ 63)
+total_held t b h e = omega (arith, min_is_least (t + b) (2 ^ 63))

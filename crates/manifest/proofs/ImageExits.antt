@@ -1,17 +1,18 @@
 -- What the loops over views and runs keep: the values read so far, and the first of the checks 4 to 7 that these fail.
 -- Assumes nothing.
-use Prim.Native.Nat.{ℕ, suc, ◌+◌, ◌-◌, ◌≤◌, ◌<◌}
+use Prim.Native.Nat.{ℕ, suc, ◌+◌, ◌-◌, ◌≤◌, ◌<◌, min}
 use native.Mathlib.Omega.{arith}
 use native.Mathlib.Numerals.{add-one}
-use native.Mathlib.Nat.{add-zero, le_antisymm}
+use native.Mathlib.Nat.{add-zero}
 use mathlib.Core.Path.{◌≡◌, refl, sym, ap, ◌∙◌}
 use mathlib.Core.Bool.{Bool, true, false, not, ◌||◌}
 use mathlib.Core.List.{List, [], ◌∷◌, ◌++◌, map}
 use mathlib.Core.List.{map-append}
 use lib.ListN.{length, get_or, take, drop, set, length-set}
-use lib.Seq.{slice, slice-cons, slice_empty, take-suc-set}
+use lib.Seq.{slice, slice-cons, take-suc-set}
 use lib.Dec.{eqb, leb}
-use borrow.Author.Tests.{leb-true, eq-eqb, ne_eqb}
+use borrow.Author.Tests.{leb-true, ne_eqb}
+use Rattle.std.specs.List.{list_any}
 use Rattle.base.specs.Outcome.{answer, check}
 use Rattle.key.specs.Order.{at_most}
 use Rattle.comparable_range.specs.Range.{unbounded, cmp_bound}
@@ -35,16 +36,16 @@ use Rattle.records.proofs.Many.{Reading, begin, stopped, onward, all_read}
 use Rattle.records.proofs.HeadExits.{run_of, run_is, image_is}
 use Rattle.manifest.specs.Ranges.{effective}
 use Rattle.manifest.specs.Checks.{Checks, image_checks, starts, has}
-use Rattle.manifest.specs.Faults.{fault_of, least, ordered, view_checks, views_checks, last_of}
+use Rattle.manifest.specs.Faults.{fault_of, ordered, view_checks, views_checks, last_of}
 use Rattle.manifest.specs.Spans.{BoundFound, faults, judged, JudgedFound}
 use Rattle.manifest.specs.declared.images.Judged.{Judged}
 use Rattle.manifest.specs.declared.images.Judged.TheVariants.{At, Stop}
-use Rattle.manifest.proofs.Steps.{views_none, views_more, starts_more, last_more, image_none, image_more}
+use Rattle.manifest.proofs.Steps.{min_is_least, has_is_any, views_none, views_more, starts_more, last_more, image_none, image_more}
 
 -- ---- views_judged
-pub record ViewsSeen (s : List ℕ) (from n left at fault : ℕ) (before : BoundSpan) : Type 0 where
+pub record ViewsSeen (s : List ℕ) (from n k at fault : ℕ) (before : BoundSpan) : Type 0 where
   pub seen : List View
-  pub reading : Reading view.read s from n left at seen
+  pub reading : Reading view.read s from n (n - k) at seen
   pub so_far : fault ≡ fault_of (views_checks seen)
   pub last : bound_in s before ≡ last_of unbounded (starts seen)
   pub last_in_lem : BoundInside s before
@@ -52,24 +53,30 @@ pub record ViewsSeen (s : List ℕ) (from n left at fault : ℕ) (before : Bound
 abbrev free : ℕ → BoundSpan
 free at = record { kind = Unbounded; at = at; len = 0 }
 
-pub views_begin : (s : List ℕ) (from n : ℕ) → from ≤ length s → ViewsSeen s from n n from 8 (free from)
+pub views_begin : (s : List ℕ) (from n : ℕ) → from ≤ length s → ViewsSeen s from n 0 from 8 (free from)
 unfolding last_of
 views_begin s from n h =
-    record { seen = []; reading = begin view.read s from n h; so_far = sym views_none; last = refl; last_in_lem = rw add-zero h }
+    let z : n - 0 ≡ n = omega arith in
+    record { seen = []; reading = rw z (begin view.read s from n h); so_far = sym views_none; last = refl; last_in_lem = rw add-zero h }
 
-module _ {s : List ℕ} {from n left at fault : ℕ} {before : BoundSpan} (p : ViewsSeen s from n left at fault before) where
+module _ {s : List ℕ} {from n k at fault : ℕ} {before : BoundSpan} (p : ViewsSeen s from n k at fault before) where
   pub views_at_lem : at ≤ length s
   views_at_lem = p.reading.within
 
   pub before_in : BoundInside s before
   before_in = p.last_in_lem
 
-  pub views_end : left ≤ 0 → JudgedFound s (faults views_checks (read_many view.read n (drop from s))) (At at fault)
-  views_end h = record { meaning = rw (all_read p.reading h, p.so_far); inside = p.reading.within }
+  pub views_end : n ≤ k → JudgedFound s (faults views_checks (read_many view.read n (drop from s))) (At at fault)
+  views_end h =
+      let z : n - k ≤ 0 = omega arith in
+      record { meaning = rw (all_read p.reading z, p.so_far); inside = p.reading.within }
 
-  module _ (h : 0 < left) {r : ViewRead} (f : ViewFound s (view.read (drop at s)) r) where
-    pub views_stop : {k : ℕ} → r ≡ ViewStop k → JudgedFound s (faults views_checks (read_many view.read n (drop from s))) (Stop k)
-    views_stop {k} q = record { meaning = rw (stopped p.reading {k = k} h (sym f.meaning ∙ rw q)); inside = tt }
+  module _ (h : k < n) {r : ViewRead} (f : ViewFound s (view.read (drop at s)) r) where
+    one_left : 0 < n - k
+    one_left = omega arith
+
+    pub views_stop : {j : ℕ} → r ≡ ViewStop j → JudgedFound s (faults views_checks (read_many view.read n (drop from s))) (Stop j)
+    views_stop {j} q = record { meaning = rw (stopped p.reading {k = j} one_left (sym f.meaning ∙ rw q)); inside = tt }
 
     module _ {v : ViewSpan} (q : r ≡ ViewAt v) where
       pub view_inside : ViewInside s v
@@ -80,21 +87,22 @@ module _ {s : List ℕ} {from n left at fault : ℕ} {before : BoundSpan} (p : V
           → BoundFound s (effective (view_in s v)).start x
           → a ≡ fault_of (view_checks (view_in s v))
           → b ≡ fault_of (ordered (at_most (cmp_bound true (bound_in s before) (bound_in s x))))
-          → c ≡ least a b
-          → d ≡ least fault c
-          → ViewsSeen s from n (left - 1) v.past d x
+          → c ≡ min a b
+          → d ≡ min fault c
+          → ViewsSeen s from n (k + 1) v.past d x
       views_onward {x} {a} {b} {c} {d} e ha hb hc hd =
+          let z : n - k - 1 ≡ n - (k + 1) = omega arith in
           record {
             seen = p.seen ++ (view_in s v ∷ []);
-            reading = onward p.reading h (sym f.meaning ∙ rw q) view_inside.past;
-            so_far = hd ∙ rw (hc, ha, hb, p.so_far, p.last, e.is) (sym (views_more p.seen (view_in s v)));
+            reading = rw z at (onward p.reading {a = view_in s v} one_left (sym f.meaning ∙ rw q) view_inside.past);
+            so_far = hd ∙ min_is_least fault c ∙ rw (hc, min_is_least a b, ha, hb, p.so_far, p.last, e.is) (sym (views_more p.seen (view_in s v)));
             last = e.is ∙ sym (ap (last_of unbounded) (starts_more p.seen (view_in s v)) ∙ last_more unbounded (starts p.seen) (effective (view_in s v)).start);
             last_in_lem = e.inside;
           }
 
 pub ruleset views_exits = (views_begin, views_at_lem, before_in, views_end, views_stop, view_inside, views_onward)
 
--- ---- shared_fault
+-- ---- none of the first i of n numbers is the id
 pub record Unshared (l : List ℕ) (n id i : ℕ) : Type 0 where
   pub upto : i ≤ n
   pub long : n ≤ length l
@@ -104,26 +112,25 @@ pub unshared_none : (l : List ℕ) (n id : ℕ) → n ≤ length l → Unshared 
 unshared_none l n id h = record { upto = omega arith; long = h; rest = refl }
 
 module _ {l : List ℕ} {n id i : ℕ} (p : Unshared l n id i) where
-  pub id_in : i < n → i < length l
-  id_in h = omega (arith, p.long)
-
   step : i < n → has id (take n l) ≡ (eqb id (get_or l i 0) || has id (slice (suc i) n l))
   unfolding has
   step h = p.rest ∙ ap (has id) (slice-cons i n l 0 h p.long)
-
-  pub shared : i < n → get_or l i 0 ≡ id → 6 ≡ fault_of (ordered (not (has id (take n l))))
-  unfolding fault_of
-  shared h e = rw (step h, eq-eqb id (get_or l i 0) (sym e))
 
   pub unshared_more : i < n → (get_or l i 0 ≡ id → ⊥) → Unshared l n id (i + 1)
   unshared_more h e =
       record { upto = omega arith; long = p.long; rest = step h ∙ rw (ne_eqb id (get_or l i 0) (λ q. e (sym q)), add-one) }
 
-  pub unshared_all : n ≤ i → 8 ≡ fault_of (ordered (not (has id (take n l))))
-  unfolding fault_of has
-  unshared_all h = rw (p.rest, le_antisymm p.upto h, slice_empty)
+-- ---- shared_fault
+module _ (l : List ℕ) (id : ℕ) {t : Bool} (h : t ≡ list_any (λ y. eqb y id) l) where
+  pub found : t ≡ true → 6 ≡ fault_of (ordered (not (has id l)))
+  unfolding fault_of
+  found e = rw (← has_is_any, ← h, e)
 
-pub ruleset shared_exits = (unshared_none, id_in, shared, unshared_more, unshared_all)
+  pub absent : t ≡ false → 8 ≡ fault_of (ordered (not (has id l)))
+  unfolding fault_of
+  absent e = rw (← has_is_any, ← h, e)
+
+pub ruleset shared_exits = (found, absent)
 
 -- ---- runs_judged
 -- an answer's place and number are those of a value that was read
@@ -151,10 +158,10 @@ runs_step :
     → fault ≡ fault_of (image_checks rs)
     → a ≡ fault_of (views_checks r.views)
     → b ≡ fault_of (ordered (not (has r.id (ids_of rs))))
-    → c ≡ least a b
-    → d ≡ least fault c
+    → c ≡ min a b
+    → d ≡ min fault c
     → d ≡ fault_of (image_checks (rs ++ (r ∷ [])))
-runs_step rs r hf ha hb hc hd = hd ∙ rw (hf, hc, ha, hb) (sym (image_more rs r))
+runs_step rs r {fault} {a} {b} {c} hf ha hb hc hd = hd ∙ min_is_least fault c ∙ rw (hf, hc, min_is_least a b, ha, hb) (sym (image_more rs r))
 
 pub record RunsSeen (s : List ℕ) (from n : ℕ) (ids : List ℕ) (k at fault : ℕ) : Type 0 where
   pub runs : List Run
@@ -209,8 +216,8 @@ module _ {s : List ℕ} {from n : ℕ} {ids : List ℕ} {k at fault : ℕ} (p : 
             {past a b c d : ℕ}
             → w ≡ At past a
             → b ≡ fault_of (ordered (not (has i (take k ids))))
-            → c ≡ least a b
-            → d ≡ least fault c
+            → c ≡ min a b
+            → d ≡ min fault c
             → RunsSeen s from n (set ids k i) (k + 1) past d
         runs_onward {past} {a} {b} {c} {d} y hb hc hd =
             let j = judge views_checks s (read_many view.read m (drop next s)) past a (sym (ap (judged s) y) ∙ x.meaning) in

@@ -1,6 +1,6 @@
 -- What the loop over blocks keeps: those read so far, and whether their first keys ascend; and the exits of `index_at`.
 -- Assumes nothing.
-use Prim.Native.Nat.{ℕ, ◌+◌, ◌-◌, ◌^◌, ◌≤◌, ◌<◌}
+use Prim.Native.Nat.{ℕ, ◌+◌, ◌-◌, ◌^◌, ◌≤◌, ◌<◌, min}
 use native.Mathlib.Omega.{arith}
 use native.Mathlib.Nat.{add-zero}
 use mathlib.Core.Path.{◌≡◌, refl, sym, ap, ◌∙◌}
@@ -30,7 +30,7 @@ use Rattle.manifest.specs.Faults.{fault_of, least, ordered, last_of}
 use Rattle.manifest.specs.Spans.{faults, JudgedFound}
 use Rattle.manifest.specs.declared.images.Judged.{Judged}
 use Rattle.manifest.specs.declared.images.Judged.TheVariants.{At, Stop}
-use Rattle.manifest.proofs.Steps.{least_joined, ascend_more, last_more, ascend_from_unbounded}
+use Rattle.manifest.proofs.Steps.{min_is_least, least_joined, ascend_more, last_more, ascend_from_unbounded}
 
 -- ---- one more block in what is checked
 abbrev firsts : List Block → List Bound
@@ -49,9 +49,9 @@ unfolding index_checks
 index_more seen b = simp (least_joined, map-append, ascend_from_unbounded, ascend_more)
 
 -- ---- blocks_judged
-pub record BlocksSeen (s : List ℕ) (from n left at fault : ℕ) (before : BoundSpan) : Type 0 where
+pub record BlocksSeen (s : List ℕ) (from n k at fault : ℕ) (before : BoundSpan) : Type 0 where
   pub seen : List Block
-  pub reading : Reading block.read s from n left at seen
+  pub reading : Reading block.read s from n (n - k) at seen
   pub so_far : fault ≡ fault_of (index_checks seen)
   pub last : bound_in s before ≡ last_of unbounded (firsts seen)
   pub last_in_lem : BoundInside s before
@@ -62,24 +62,30 @@ free at = record { kind = Unbounded; at = at; len = 0 }
 abbrev at_key : ℕ → ℕ → BoundSpan
 at_key at len = record { kind = Included; at = at; len = len }
 
-pub blocks_begin : (s : List ℕ) (from n : ℕ) → from ≤ length s → BlocksSeen s from n n from 8 (free from)
+pub blocks_begin : (s : List ℕ) (from n : ℕ) → from ≤ length s → BlocksSeen s from n 0 from 8 (free from)
 unfolding last_of
 blocks_begin s from n h =
-    record { seen = []; reading = begin block.read s from n h; so_far = sym index_none; last = refl; last_in_lem = rw add-zero h }
+    let z : n - 0 ≡ n = omega arith in
+    record { seen = []; reading = rw z (begin block.read s from n h); so_far = sym index_none; last = refl; last_in_lem = rw add-zero h }
 
-module _ {s : List ℕ} {from n left at fault : ℕ} {before : BoundSpan} (p : BlocksSeen s from n left at fault before) where
+module _ {s : List ℕ} {from n k at fault : ℕ} {before : BoundSpan} (p : BlocksSeen s from n k at fault before) where
   pub blocks_at : at ≤ length s
   blocks_at = p.reading.within
 
   pub before_in : BoundInside s before
   before_in = p.last_in_lem
 
-  pub blocks_end : left ≤ 0 → JudgedFound s (faults index_checks (read_many block.read n (drop from s))) (At at fault)
-  blocks_end h = record { meaning = rw (all_read p.reading h, p.so_far); inside = p.reading.within }
+  pub blocks_end : n ≤ k → JudgedFound s (faults index_checks (read_many block.read n (drop from s))) (At at fault)
+  blocks_end h =
+      let z : n - k ≤ 0 = omega arith in
+      record { meaning = rw (all_read p.reading z, p.so_far); inside = p.reading.within }
 
-  module _ (h : 0 < left) {r : BlockRead} (f : BlockFound s (block.read (drop at s)) r) where
-    pub blocks_stop : {k : ℕ} → r ≡ BlockStop k → JudgedFound s (faults index_checks (read_many block.read n (drop from s))) (Stop k)
-    blocks_stop {k} q = record { meaning = rw (stopped p.reading {k = k} h (sym f.meaning ∙ rw q)); inside = tt }
+  module _ (h : k < n) {r : BlockRead} (f : BlockFound s (block.read (drop at s)) r) where
+    one_left : 0 < n - k
+    one_left = omega arith
+
+    pub blocks_stop : {j : ℕ} → r ≡ BlockStop j → JudgedFound s (faults index_checks (read_many block.read n (drop from s))) (Stop j)
+    blocks_stop {j} q = record { meaning = rw (stopped p.reading {k = j} one_left (sym f.meaning ∙ rw q)); inside = tt }
 
     module _ {o i m next : ℕ} (q : r ≡ BlockAt o i m next) where
       pub first_in : BoundInside s (at_key i m)
@@ -88,14 +94,15 @@ module _ {s : List ℕ} {from n left at fault : ℕ} {before : BoundSpan} (p : B
       pub blocks_onward :
           {a d : ℕ}
           → a ≡ fault_of (ordered (at_most (cmp_bound true (bound_in s before) (bound_in s (at_key i m)))))
-          → d ≡ least fault a
-          → BlocksSeen s from n (left - 1) next d (at_key i m)
+          → d ≡ min fault a
+          → BlocksSeen s from n (k + 1) next d (at_key i m)
       blocks_onward {a} {d} ha hd =
           let here : Block = record { offset = o; first = key_in s i m } in
+          let z : n - k - 1 ≡ n - (k + 1) = omega arith in
           record {
             seen = p.seen ++ (here ∷ []);
-            reading = onward p.reading h (sym f.meaning ∙ rw q) (rw q at f.inside).1;
-            so_far = hd ∙ rw (ha, p.so_far, p.last) (sym (index_more p.seen here));
+            reading = rw z at (onward p.reading {a = here} one_left (sym f.meaning ∙ rw q) (rw q at f.inside).1);
+            so_far = hd ∙ min_is_least fault a ∙ rw (ha, p.so_far, p.last) (sym (index_more p.seen here));
             last = sym (ap (last_of unbounded) (map-append _ p.seen (here ∷ [])) ∙ last_more unbounded (firsts p.seen) (included here.first));
             last_in_lem = first_in;
           }

@@ -9,8 +9,6 @@ use Rattle.key.specs.Order.{Key}
 use Rattle.comparable_range.specs.Range.{Range, bound_of, of, start_side, end_side}
 use Rattle.comparable_range.specs.declared.Side.{Side}
 use Rattle.comparable_range.specs.declared.Side.TheVariants.{First, Second}
-use Rattle.comparable_range.specs.declared.Kind.{Kind}
-use Rattle.comparable_range.specs.declared.Kind.TheVariants.{Unbounded, Included}
 use Rattle.format.specs.Range.{bound_in, range_in, BoundInside}
 use Rattle.format.specs.declared.range.BoundSpan.{BoundSpan}
 use Rattle.records.specs.Spans.{table_in, view_in, ViewInside, if_so}
@@ -18,18 +16,6 @@ use Rattle.records.specs.declared.tables.TableSpan.{TableSpan}
 use Rattle.records.specs.declared.views.ViewSpan.{ViewSpan}
 use Rattle.manifest.specs.Ranges.{own, last_bound, effective}
 use Rattle.manifest.specs.Spans.{first_span, last_kind, last_span, BoundFound, EffectiveFound}
-
--- ---- own_end
-abbrev span : Kind → ℕ → ℕ → BoundSpan
-span k i n = record { kind = k; at = i; len = n }
-
-pub with_last : (f : Bool) (i n : ℕ) → f ≡ true → span Included i n ≡ span (last_kind f) i n
-with_last f i n e = rw e
-
-pub without_last : (f : Bool) (i n : ℕ) → f ≡ false → span Unbounded i n ≡ span (last_kind f) i n
-without_last f i n e = rw e
-
-pub ruleset own_exits = (with_last, without_last)
 
 -- ---- effective
 of_in : (s : List ℕ) (d : Side) (a b : BoundSpan) → bound_in s (of d a b) ≡ of d (bound_in s a) (bound_in s b)

@@ -1,11 +1,13 @@
 -- One more element in what is checked: the fault of all is the least of the fault so far and the faults of the element.
 -- Assumes nothing.
-use Prim.Native.Nat.{ℕ, ◌<◌, ◌≤◌}
+use Prim.Native.Nat.{ℕ, ◌<◌, ◌≤◌, min}
+use native.Mathlib.Omega.{arith}
 use mathlib.Core.Path.{◌≡◌, refl, sym, ap, ◌∙◌}
 use mathlib.Core.Bool.{Bool, true, false, not, ◌&&◌, ◌||◌, and-true, and_assoc, or_assoc, or-false}
 use mathlib.Core.List.{List, [], ◌∷◌, ◌++◌, map, map-append}
 use lib.Dec.{eqb, ltb}
-use borrow.Author.Tests.{eqb-true, eqb-false, eq-eqb, ne_eqb, lt-ltb, le-ltb}
+use borrow.Author.Tests.{eqb-true, eqb-false, eq-eqb, ne_eqb, lt-ltb, le-ltb, ltb-true, ltb-false}
+use Rattle.std.specs.List.{list_any}
 use Rattle.base.specs.Pick.{pick, and_first, and_second}
 use Rattle.base.specs.Outcome.{Outcome, stop}
 use Rattle.key.specs.Order.{at_most}
@@ -46,6 +48,15 @@ least_table = refl
 pub least_joined : (c d : Checks) → least (fault_of c) (fault_of d) ≡ fault_of (joined c d)
 least_joined c d =
     eqb-true _ _ (at_checks (least_is_joined c) (at_checks (λ c. all_checks (least_is_joined c)) least_table c) d)
+
+-- std's `min` is the least
+pub min_is_least : (a b : ℕ) → min a b ≡ least a b
+unfolding least
+min_is_least a b = go (ltb a b) refl
+  where
+    go : (t : Bool) → ltb a b ≡ t → min a b ≡ pick t a b
+    go true e = let h : a < b = ltb-true a b e in omega arith
+    go false e = let h : b ≤ a = ltb-false a b e in omega arith
 
 -- ---- what a fault says
 module _ {A : Type 0} (c : Checks) (rest : Outcome A) where
@@ -105,6 +116,12 @@ eqb_commutes m n = go (eqb n m) refl
     go : (t : Bool) → eqb n m ≡ t → eqb m n ≡ t
     go true e = eq-eqb m n (sym (eqb-true n m e))
     go false e = ne_eqb m n (λ q. eqb-false n m e (sym q))
+
+-- as std's `contains` says it
+pub has_is_any : (n : ℕ) (ms : List ℕ) → list_any (λ m. eqb m n) ms ≡ has n ms
+unfolding has
+has_is_any n [] = refl
+has_is_any n (m ∷ ms) = rw (eqb_commutes n m, has_is_any n ms)
 
 pub distinct_more : (ns : List ℕ) (n : ℕ) → distinct (ns ++ (n ∷ [])) ≡ (distinct ns && not (has n ns))
 unfolding distinct has

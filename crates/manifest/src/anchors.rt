@@ -2,16 +2,14 @@
 ghost use Rattle.std.specs.Prelude.{◌≡◌, ◌+◌, ◌^◌, ◌≤◌};
 ghost use Rattle.manifest.specs.Faults.{least};
 
-// 2^63: a total of so many is refused.
-const TOO_MANY_BYTES: u64 = 9223372036854775808;
+// A total of so many is refused.
+const TOO_MANY_BYTES: u64 = 1 << 63;
 
 // A total with some bytes more, or 2^63 once that is reached: no sum above it is made, so none wraps.
+#[tactic(auto, using(crate::proofs::AnchorExits::total_held))]
 pub fn added(total: u64, bytes: u64) -> u64
     requires { total ≤ 2 ^ 63 }
     ensures { result ≡ least (total + bytes) (2 ^ 63) }
 {
-    if bytes < TOO_MANY_BYTES - total {
-        return total + bytes;
-    }
-    TOO_MANY_BYTES
+    total + bytes.min(TOO_MANY_BYTES - total)
 }

@@ -1,5 +1,5 @@
 // An image read whole, with the first of the checks 4 to 7 that fails, in one pass.
-ghost use Rattle.std.specs.Prelude.{◌≡◌, not, ◌≤◌, length, take, drop};
+ghost use Rattle.std.specs.Prelude.{◌≡◌, not, ◌≤◌, length, drop};
 ghost use Rattle.records.specs.Form.{read_many};
 ghost use Rattle.records.specs.Layouts.{view, run, image};
 ghost use Rattle.format.specs.Whole.{whole};
@@ -7,7 +7,7 @@ ghost use Rattle.manifest.specs.Checks.{image_checks, has};
 ghost use Rattle.manifest.specs.Faults.{fault_of, ordered, views_checks};
 ghost use Rattle.manifest.specs.Spans.{JudgedInside, JudgedFound, faults, JudgedWhole, ended_by};
 
-use crate::checks::{lesser, order_fault, view_fault};
+use crate::checks::{order_fault, view_fault};
 use crate::ranges::{effective_end, effective_start};
 use comparable_range::Kind;
 use format::BoundSpan;
@@ -22,11 +22,11 @@ pub enum Judged {
 }
 
 // As many views as n.
+#[tactic(auto, using(crate::proofs::ImageExits::views_exits, crate::proofs::RangeExits::both_bounds))]
 pub fn views_judged(s: &[u8], from: usize, n: usize) -> Judged
     requires { from ≤ length s.now }
     ensures { JudgedFound s.now (faults views_checks (read_many view.read n (drop from s.now))) result }
 {
-    let mut left = n;
     let mut at = from;
     let mut fault: u8 = 8;
     let mut before = BoundSpan {
@@ -34,71 +34,53 @@ pub fn views_judged(s: &[u8], from: usize, n: usize) -> Judged
         at: from,
         len: 0,
     };
-    while 0 < left {
+    for _ in 0..n {
         match records::view_at(s, at) {
-            ViewRead::Stop(k) => {
-                return Judged::Stop(k);
-            }
+            ViewRead::Stop(k) => return Judged::Stop(k),
             ViewRead::At(v) => {
                 let start = effective_start(s, v);
                 let e = RangeSpan {
                     start,
                     end: effective_end(s, v),
                 };
-                fault = lesser(
-                    fault,
-                    lesser(view_fault(s, v, e), order_fault(s, before, start)),
-                );
+                fault = fault.min(view_fault(s, v, e).min(order_fault(s, before, start)));
                 before = start;
                 at = v.past;
-                left -= 1;
             }
         }
     }
     Judged::At { next: at, fault }
 }
 
-// Check 6 of a run's id: 6 if it is among the first n ids, or 8.
-fn shared_fault(ids: &[u64], n: usize, id: u64) -> u8
-    requires { n ≤ length ids.now }
-    ensures { result ≡ fault_of (ordered (not (has id (take n ids.now)))) }
+// Check 6 of a run's id: 6 if it is among the ids before it, or 8.
+#[tactic(auto, using(crate::proofs::ImageExits::shared_exits))]
+fn shared_fault(ids: &[u64], id: u64) -> u8
+    ensures { result ≡ fault_of (ordered (not (has id ids.now))) }
 {
-    let mut i = 0;
-    while i < n {
-        if ids[i] == id {
-            return 6;
-        }
-        i += 1;
-    }
-    8
+    if ids.contains(&id) { 6 } else { 8 }
 }
 
 // As many runs as n.
+#[tactic(auto, using(crate::proofs::ImageExits::runs_exits))]
 fn runs_judged(s: &[u8], from: usize, n: usize) -> Judged
     requires fact_1 { from ≤ length s.now }
     requires fact_2 { n ≤ 64 }
     ensures { JudgedFound s.now (faults image_checks (read_many run.read n (drop from s.now))) result }
 {
     let mut ids = [0u64; 64];
-    let mut seen = 0;
     let mut at = from;
     let mut fault: u8 = 8;
-    while seen < n {
+    for seen in 0..n {
         match records::run_at(s, at) {
-            RunRead::Stop(k) => {
-                return Judged::Stop(k);
-            }
+            RunRead::Stop(k) => return Judged::Stop(k),
             RunRead::At { id, views, next } => match views_judged(s, next, views) {
-                Judged::Stop(k) => {
-                    return Judged::Stop(k);
-                }
+                Judged::Stop(k) => return Judged::Stop(k),
                 Judged::At {
                     next: past,
                     fault: worst,
                 } => {
-                    fault = lesser(fault, lesser(worst, shared_fault(&ids, seen, id)));
+                    fault = fault.min(worst.min(shared_fault(&ids[..seen], id)));
                     ids[seen] = id;
-                    seen += 1;
                     at = past;
                 }
             },
@@ -108,6 +90,7 @@ fn runs_judged(s: &[u8], from: usize, n: usize) -> Judged
 }
 
 // What a reading from the front of a buffer says of the whole buffer: bytes that remain are stop 1.
+#[tactic(auto, using(crate::proofs::WholeExits::ended_exits))]
 pub fn ended(s: &[u8], r: Judged) -> Judged
     requires { JudgedInside s.now r }
     ensures { result ≡ ended_by (length s.now) r }
@@ -124,6 +107,7 @@ pub fn ended(s: &[u8], r: Judged) -> Judged
 }
 
 // The image at the front of a buffer.
+#[tactic(auto, using(crate::proofs::ImageExits::image_exits))]
 fn image_front(s: &[u8]) -> Judged
     ensures { JudgedFound s.now (faults image_checks (image.read s.now)) result }
 {
@@ -134,6 +118,7 @@ fn image_front(s: &[u8]) -> Judged
 }
 
 // The image that is the whole of a buffer.
+#[tactic(auto, using(crate::proofs::WholeExits::whole_exits))]
 pub fn image_judged(s: &[u8]) -> Judged
     ensures { JudgedWhole s.now image_checks (whole image.read s.now) result }
 {

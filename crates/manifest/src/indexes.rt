@@ -6,18 +6,18 @@ ghost use Rattle.records.specs.Layouts.{block, index};
 ghost use Rattle.manifest.specs.Checks.{index_checks};
 ghost use Rattle.manifest.specs.Spans.{JudgedFound, faults, JudgedWhole};
 
-use crate::checks::{lesser, order_fault};
+use crate::checks::order_fault;
 use crate::images::{Judged, ended};
 use comparable_range::Kind;
 use format::BoundSpan;
 use records::BlockRead;
 
 // As many blocks as n.
+#[tactic(auto, using(crate::proofs::IndexExits::blocks_exits))]
 fn blocks_judged(s: &[u8], from: usize, n: usize) -> Judged
     requires { from ≤ length s.now }
     ensures { JudgedFound s.now (faults index_checks (read_many block.read n (drop from s.now))) result }
 {
-    let mut left = n;
     let mut at = from;
     let mut fault: u8 = 8;
     let mut before = BoundSpan {
@@ -25,11 +25,9 @@ fn blocks_judged(s: &[u8], from: usize, n: usize) -> Judged
         at: from,
         len: 0,
     };
-    while 0 < left {
+    for _ in 0..n {
         match records::block_at(s, at) {
-            BlockRead::Stop(k) => {
-                return Judged::Stop(k);
-            }
+            BlockRead::Stop(k) => return Judged::Stop(k),
             BlockRead::At {
                 offset: _,
                 start,
@@ -41,10 +39,9 @@ fn blocks_judged(s: &[u8], from: usize, n: usize) -> Judged
                     at: start,
                     len,
                 };
-                fault = lesser(fault, order_fault(s, before, first));
+                fault = fault.min(order_fault(s, before, first));
                 before = first;
                 at = next;
-                left -= 1;
             }
         }
     }
@@ -52,6 +49,7 @@ fn blocks_judged(s: &[u8], from: usize, n: usize) -> Judged
 }
 
 // The index at a place. Its count has no ceiling: the bytes that are there limit it.
+#[tactic(auto, using(crate::proofs::IndexExits::index_exits))]
 pub fn index_at(s: &[u8], at: usize) -> Judged
     requires { at ≤ length s.now }
     ensures { JudgedFound s.now (faults index_checks (index.read (drop at s.now))) result }
@@ -59,11 +57,12 @@ pub fn index_at(s: &[u8], at: usize) -> Judged
     if s.len() - at < 2 {
         return Judged::Stop(1);
     }
-    let n = records::number_here(s, at, 2);
+    let n = format::number_there(s, at, 2);
     blocks_judged(s, at + 2, n as usize)
 }
 
 // The index that is the whole of a buffer.
+#[tactic(auto, using(crate::proofs::WholeExits::whole_exits))]
 pub fn index_judged(s: &[u8]) -> Judged
     ensures { JudgedWhole s.now index_checks (whole index.read s.now) result }
 {

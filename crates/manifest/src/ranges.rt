@@ -24,15 +24,13 @@ pub fn own_start(t: TableSpan) -> BoundSpan
 pub fn own_end(t: TableSpan) -> BoundSpan
     ensures { result ≡ last_span t }
 {
-    if t.flagged {
-        return BoundSpan {
-            kind: Kind::Included,
-            at: t.last_at,
-            len: t.last_len,
-        };
-    }
+    let kind = if t.flagged {
+        Kind::Included
+    } else {
+        Kind::Unbounded
+    };
     BoundSpan {
-        kind: Kind::Unbounded,
+        kind,
         at: t.last_at,
         len: t.last_len,
     }
@@ -40,32 +38,35 @@ pub fn own_end(t: TableSpan) -> BoundSpan
 
 // Where a view's effective range starts: where its table's own does, or the visible range if that is greater. Apart from the
 // end, so that each is small enough to be made part of a loop: a call copies the view.
+#[tactic(auto, using(crate::proofs::RangeExits::bound_exits))]
 pub fn effective_start(s: &[u8], v: ViewSpan) -> BoundSpan
     requires { ViewInside s.now v }
     ensures { BoundFound s.now (effective (view_in s.now v)).start result }
 {
     let start = own_start(v.table);
     if v.shown {
-        let a = v.start;
-        return span::bound_of(span::greater_start(s, start, s, a), start, a);
+        span::bound_of(span::greater_start(s, start, s, v.start), start, v.start)
+    } else {
+        start
     }
-    start
 }
 
 // Where it ends.
+#[tactic(auto, using(crate::proofs::RangeExits::bound_exits))]
 pub fn effective_end(s: &[u8], v: ViewSpan) -> BoundSpan
     requires { ViewInside s.now v }
     ensures { BoundFound s.now (effective (view_in s.now v)).end result }
 {
     let end = own_end(v.table);
     if v.shown {
-        let b = v.end;
-        return span::bound_of(span::lesser_end(s, end, s, b), end, b);
+        span::bound_of(span::lesser_end(s, end, s, v.end), end, v.end)
+    } else {
+        end
     }
-    end
 }
 
 // The effective range of a view: its table's own range, cut by the visible range.
+#[tactic(auto, using(crate::proofs::RangeExits::both_bounds))]
 pub fn effective(s: &[u8], v: ViewSpan) -> RangeSpan
     requires { ViewInside s.now v }
     ensures { EffectiveFound s.now v result }

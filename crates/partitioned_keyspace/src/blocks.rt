@@ -152,6 +152,6 @@ pub fn index_read<'a>(s: &'a [u8], start: &'a [u8], end: &'a [u8]) -> Reading
     if s.len() < 2 {
         return Reading::Stop(1);
     }
-    let n = records::number_here(s, 0, 2);
+    let n = format::number_there(s, 0, 2);
     blocks_read(s, 2, n as usize, start, end)
 }

@@ -11,7 +11,7 @@ use lib.ListN.{length}
 use Rattle.base.specs.Outcome.{Outcome, answer}
 use Rattle.base.specs.Outcome as outcome
 use Rattle.base.specs.Bytes.{Bytes, bytes_rest}
-use Rattle.format.specs.Got.{Got, got, stop}
+use Rattle.format.specs.Got.{Got, got}
 use Rattle.format.specs.Number.{read_number, write_number}
 use Rattle.format.specs.Laws.{Written}
 use Rattle.format.proofs.Layouts.{came, bytes_back, bytes_only, number_layout, key_layout}

@@ -1,7 +1,6 @@
 pub mod Forms
 pub mod RecordLayouts
 pub mod Many
-pub mod IdExits
 pub mod FieldExits
 pub mod TableExits
 pub mod ViewExits

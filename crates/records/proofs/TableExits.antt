@@ -2,9 +2,8 @@
 -- Assumes nothing.
 use Prim.Native.Nat.{ℕ, ◌+◌, ◌*◌, ◌-◌, ◌^◌, ◌<◌, ◌≤◌}
 use native.Mathlib.Omega.{arith}
-use native.Mathlib.Nat.{add-zero}
 use mathlib.Core.Path.{◌≡◌, refl, sym, ap, ◌∙◌}
-use mathlib.Core.Bool.{Bool, true, false}
+use mathlib.Core.Bool.{Bool}
 use mathlib.Core.Option.{Option}
 use mathlib.Core.List.{List}
 use lib.ListN.{length, get_or, take, drop, length-drop}
@@ -25,22 +24,6 @@ use Rattle.records.specs.declared.fields.FlagRead.{FlagRead}
 use Rattle.records.specs.declared.fields.FlagRead.TheVariants.{Is, Stop as FlagStop}
 use Rattle.records.specs.declared.tables.TableRead.TheVariants.{At, Stop}
 use Rattle.records.proofs.FieldExits.{StopsShort, number_is, bytes_is, byte_is, number_short, bytes_short, packed_short, number_exact, bytes_exact, seq_short, first_short}
-
--- ---- last_at
-module _ (s : List ℕ) (at : ℕ) {f : Bool} where
-  read_last : (r : KeyRead) → f ≡ true → KeyFound s (read_key (drop at s)) r → LastFound s f (last_if f (drop at s)) r
-  unfolding last_if read_if
-  read_last (KeyAt i n p) e k = record { meaning = rw (e, ← k.meaning); inside = k.inside }
-  read_last (KeyStop n) e k = record { meaning = rw (e, ← k.meaning); inside = tt }
-
-  pub last_there : {r : KeyRead} → f ≡ true → KeyFound s (read_key (drop at s)) r → LastFound s f (last_if f (drop at s)) r
-  last_there {r} e k = read_last r e k
-
-  pub last_absent : f ≡ false → at ≤ length s → LastFound s f (last_if f (drop at s)) (KeyAt at 0 at)
-  unfolding last_if read_if
-  last_absent e h = record { meaning = rw e; inside = (add-zero at, h) }
-
-pub ruleset last_exits = (last_there, last_absent)
 
 -- ---- table_at
 -- the fields after the numbers, and the table of all

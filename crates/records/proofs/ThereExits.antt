@@ -112,22 +112,6 @@ module _ (s : List ℕ) (at : ℕ) (t : T (is_got (run_head.read (drop at s)))) 
 
 pub ruleset known_run_exits = (id_room, count_room, count_fits, views_fit, run_is)
 
--- ---- last_there
-module _ (s : List ℕ) (at : ℕ) {f : Bool} where
-  pub last_got : f ≡ true → T (is_got (last_if f (drop at s))) → T (is_got (read_key (drop at s)))
-  unfolding last_if read_if
-  last_got e t = first_got (read_key (drop at s)) _ (rw e at t)
-
-  pub last_keyed : {k : KeySpan} → f ≡ true → KeyThere s (read_key (drop at s)) k → LastThere s f (last_if f (drop at s)) k
-  unfolding last_if read_if
-  last_keyed e x = record { meaning = rw (e, x.meaning); inside = x.inside }
-
-  pub last_none : f ≡ false → at ≤ length s → LastThere s f (last_if f (drop at s)) (record { at = at; len = 0 })
-  unfolding last_if read_if
-  last_none e h = record { meaning = rw (e, add-zero); inside = rw add-zero h }
-
-pub ruleset last_there_exits = (last_got, last_keyed, last_none)
-
 -- ---- table_there
 flags : (b f : Bool) (l : List ℕ) → T (is_got (taken (check 2 b (answer f)) l)) → check 2 b (answer f) ≡ answer f
 flags true f l t = refl

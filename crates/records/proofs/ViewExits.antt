@@ -2,9 +2,8 @@
 -- Assumes nothing.
 use Prim.Native.Nat.{ℕ, ◌+◌, ◌-◌, ◌^◌, ◌<◌, ◌≤◌}
 use native.Mathlib.Omega.{arith}
-use native.Mathlib.Nat.{add-zero}
 use mathlib.Core.Path.{◌≡◌, sym}
-use mathlib.Core.Bool.{Bool, true, false}
+use mathlib.Core.Bool.{Bool}
 use mathlib.Core.List.{List}
 use lib.ListN.{length, get_or, take, drop, length-drop, drop_of_length-le}
 use mir.Val.{Fits}
@@ -12,7 +11,6 @@ use mir.Syntax.{w64}
 use Rattle.comparable_range.specs.declared.Kind.TheVariants.{Unbounded}
 use Rattle.format.specs.Got.{got}
 use Rattle.format.specs.Key.{read_bytes}
-use Rattle.format.specs.Range.{read_range, RangeFound}
 use Rattle.format.specs.declared.range.BoundSpan.{BoundSpan}
 use Rattle.format.specs.declared.range.RangeRead.{RangeRead}
 use Rattle.format.specs.declared.range.RangeRead.TheVariants.{At as RangeAt, Stop as RangeStop}
@@ -28,24 +26,9 @@ use Rattle.records.specs.declared.tables.TableRead.TheVariants.{At as TableAt, S
 use Rattle.records.specs.declared.views.ViewRead.TheVariants.{At, Stop}
 use Rattle.records.proofs.FieldExits.{bytes_is, byte_is, bytes_short, number_short}
 
--- ---- visible_at
+-- the bound of a view without a visible range
 abbrev pub free : ℕ → BoundSpan
 free at = record { kind = Unbounded; at = at; len = 0 }
-
-module _ (s : List ℕ) (at : ℕ) {f : Bool} where
-  read_range_lem : (r : RangeRead) → f ≡ true → RangeFound s (read_range (drop at s)) r → VisibleFound s f (range_if f (drop at s)) r
-  unfolding range_if read_if
-  read_range_lem (RangeAt b c p) e k = record { meaning = rw (e, ← k.meaning); inside = k.inside }
-  read_range_lem (RangeStop n) e k = record { meaning = rw (e, ← k.meaning); inside = tt }
-
-  pub range_there : {r : RangeRead} → f ≡ true → RangeFound s (read_range (drop at s)) r → VisibleFound s f (range_if f (drop at s)) r
-  range_there {r} e k = read_range_lem r e k
-
-  pub range_absent : f ≡ false → at ≤ length s → VisibleFound s f (range_if f (drop at s)) (RangeAt (free at) (free at) at)
-  unfolding range_if read_if
-  range_absent e h = record { meaning = rw e; inside = (rw add-zero h, (rw add-zero h, h)) }
-
-pub ruleset visible_exits = (range_there, range_absent)
 
 -- ---- view_of
 module _ (s : List ℕ) (at : ℕ) {t : TableSpan} (h : at + 16 ≤ length s) (x : TableThere s (table.read (drop (at + 16) s)) t) where

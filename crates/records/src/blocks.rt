@@ -3,7 +3,6 @@ ghost use Rattle.std.specs.Prelude.{◌≤◌, length, drop};
 ghost use Rattle.records.specs.Layouts.{block, anchor};
 ghost use Rattle.records.specs.Spans.{BlockFound, AnchorFound};
 
-use crate::fields::number_here;
 use format::KeyRead;
 
 // A block's offset, where its first key stands, and the place past it.
@@ -19,6 +18,7 @@ pub enum BlockRead {
 }
 
 // The block at a place.
+#[tactic(auto, using(crate::proofs::BlockExits::block_exits))]
 pub fn block_at(s: &[u8], at: usize) -> BlockRead
     requires { at ≤ length s.now }
     ensures { BlockFound s.now (block.read (drop at s.now)) result }
@@ -26,7 +26,7 @@ pub fn block_at(s: &[u8], at: usize) -> BlockRead
     if s.len() - at < 8 {
         return BlockRead::Stop(1);
     }
-    let offset = number_here(s, at, 8);
+    let offset = format::number_there(s, at, 8);
     match format::key_at(s, at + 8) {
         KeyRead::Stop(n) => BlockRead::Stop(n),
         KeyRead::At { start, len, next } => BlockRead::At {
@@ -51,6 +51,7 @@ pub enum AnchorRead {
 }
 
 // The anchor at a place.
+#[tactic(auto, using(crate::proofs::BlockExits::anchor_exits))]
 pub fn anchor_at(s: &[u8], at: usize) -> AnchorRead
     requires { at ≤ length s.now }
     ensures { AnchorFound s.now (anchor.read (drop at s.now)) result }
@@ -61,7 +62,7 @@ pub fn anchor_at(s: &[u8], at: usize) -> AnchorRead
             if s.len() - next < 8 {
                 return AnchorRead::Stop(1);
             }
-            let bytes = number_here(s, next, 8);
+            let bytes = format::number_there(s, next, 8);
             AnchorRead::At {
                 start,
                 len,

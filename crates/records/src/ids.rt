@@ -12,11 +12,5 @@ pub fn table_id_at(s: &[u8], at: usize) -> TableId
     requires { at + 16 ≤ length s.now }
     ensures { result.0 ≡ take 16 (drop at s.now) }
 {
-    let mut id = [0u8; 16];
-    let mut i = 0;
-    while i < 16 {
-        id[i] = s[at + i];
-        i += 1;
-    }
-    TableId(id)
+    TableId(<[u8; 16]>::try_from(&s[at..at + 16]).unwrap())
 }

@@ -13,7 +13,6 @@ mod there;
 mod views;
 
 pub use blocks::{AnchorRead, BlockRead, anchor_at, block_at};
-pub use fields::number_here;
 pub use ids::{TableId, ViewId, table_id_at};
 pub use parts::{JobRead, PartRead, job_head, part_at};
 pub use reader::{Reader, at_end, run_at, run_there, runs_at, runs_there, view_at, view_there};

@@ -2,7 +2,6 @@
 ghost use Rattle.std.specs.Prelude.{◌≤◌, length, drop};
 ghost use Rattle.records.specs.Spans.{part_head, PartFound, sources, SourcesFound, job_head, JobFound};
 
-use crate::fields::number_here;
 use crate::runs::{CountRead, count_at};
 use format::{BoundSpan, RangeRead};
 
@@ -21,6 +20,7 @@ pub enum PartRead {
 
 // The head of the part at a place: the range, then a word with the completed flag in its highest bit and the output count
 // in the other 15.
+#[tactic(auto, using(crate::proofs::PartExits::part_exits))]
 pub fn part_at(s: &[u8], at: usize) -> PartRead
     ensures { PartFound s.now (part_head.read (drop at s.now)) result }
 {
@@ -34,7 +34,7 @@ pub fn part_at(s: &[u8], at: usize) -> PartRead
             if s.len() - p < 2 {
                 return PartRead::Stop(1);
             }
-            let word = number_here(s, p, 2);
+            let word = format::number_there(s, p, 2);
             if 1024 < word % 32768 {
                 return PartRead::Stop(3);
             }
@@ -61,6 +61,7 @@ pub enum SourcesRead {
 }
 
 // The sources at a place: their count, and an id of 4 bytes each.
+#[tactic(auto, using(crate::proofs::PartExits::sources_exits))]
 fn sources_at(s: &[u8], at: usize) -> SourcesRead
     requires { at ≤ length s.now }
     ensures { SourcesFound s.now (sources.read (drop at s.now)) result }
@@ -96,13 +97,14 @@ pub enum JobRead {
 }
 
 // The head of the job at the front of a buffer.
+#[tactic(auto, using(crate::proofs::PartExits::job_exits))]
 pub fn job_head(s: &[u8]) -> JobRead
     ensures { JobFound s.now (job_head.read s.now) result }
 {
     if s.len() < 4 {
         return JobRead::Stop(1);
     }
-    let destination = number_here(s, 0, 4);
+    let destination = format::number_there(s, 0, 4);
     match sources_at(s, 4) {
         SourcesRead::Stop(n) => JobRead::Stop(n),
         SourcesRead::At {

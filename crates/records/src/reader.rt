@@ -11,6 +11,7 @@ use crate::runs::{CountRead, RunRead, count_span, none_left, run_span};
 use crate::there::{RunSpan, known_count, known_run, known_view};
 use crate::views::{ViewRead, ViewSpan, view_span};
 
+// The struct stays, thin as its methods are: that one reader reads an image is a promise of this library (docs/DECISIONS.md, 10).
 #[derive(Clone, Copy)]
 pub struct Reader<'a> {
     pub image: &'a [u8],

@@ -3,8 +3,6 @@ ghost use Rattle.std.specs.Prelude.{◌≡◌, ◌≤◌, ◌+◌, leb, length, 
 ghost use Rattle.records.specs.Layouts.{up_to};
 ghost use Rattle.records.specs.Spans.{run_head, RunFound, CountFound};
 
-use crate::fields::number_here;
-
 // A run's id, how many views it has, and the place of the first.
 #[derive(Clone, Copy)]
 pub enum RunRead {
@@ -13,6 +11,7 @@ pub enum RunRead {
 }
 
 // The head of the run at a place.
+#[tactic(auto, using(crate::proofs::HeadExits::run_exits))]
 pub fn run_span(s: &[u8], at: usize) -> RunRead
     requires { at ≤ length s.now }
     ensures { RunFound s.now (run_head.read (drop at s.now)) result }
@@ -20,8 +19,8 @@ pub fn run_span(s: &[u8], at: usize) -> RunRead
     if s.len() - at < 6 {
         return RunRead::Stop(1);
     }
-    let id = number_here(s, at, 4);
-    let word = number_here(s, at + 4, 2);
+    let id = format::number_there(s, at, 4);
+    let word = format::number_there(s, at + 4, 2);
     if 1024 < word / 16 {
         return RunRead::Stop(3);
     }
@@ -43,6 +42,7 @@ pub enum CountRead {
 }
 
 // A count of n bytes that is at most a ceiling.
+#[tactic(auto, using(crate::proofs::HeadExits::count_exits))]
 pub fn count_at(s: &[u8], at: usize, n: usize, most: usize) -> CountRead
     requires fact_1 { n ≤ 8 }
     requires fact_2 { at ≤ length s.now }
@@ -51,7 +51,7 @@ pub fn count_at(s: &[u8], at: usize, n: usize, most: usize) -> CountRead
     if s.len() - at < n {
         return CountRead::Stop(1);
     }
-    let count = number_here(s, at, n);
+    let count = format::number_there(s, at, n);
     if (most as u64) < count {
         return CountRead::Stop(3);
     }

@@ -3,7 +3,7 @@ ghost use Rattle.std.specs.Prelude.{◌≤◌, ◌+◌, length, drop};
 ghost use Rattle.records.specs.Layouts.{table};
 ghost use Rattle.records.specs.Spans.{LastFound, TableFound, last_if};
 
-use crate::fields::{FlagRead, flag_of, number_here};
+use crate::fields::{FlagRead, flag_of};
 use format::KeyRead;
 
 // Where a table's fields stand: id is the place of its id, past the place past it. Without a last key, flagged is false and
@@ -29,21 +29,24 @@ pub enum TableRead {
 }
 
 // The last key, if the flag says that there is one.
+#[tactic(auto, unfolding(crate::specs::Spans::last_if, crate::specs::Form::read_if))]
 fn last_at(flagged: bool, s: &[u8], at: usize) -> KeyRead
     requires { at ≤ length s.now }
     ensures { LastFound s.now flagged (last_if flagged (drop at s.now)) result }
 {
     if flagged {
-        return format::key_at(s, at);
-    }
-    KeyRead::At {
-        start: at,
-        len: 0,
-        next: at,
+        format::key_at(s, at)
+    } else {
+        KeyRead::At {
+            start: at,
+            len: 0,
+            next: at,
+        }
     }
 }
 
 // The table at a place. The numbers stand in the first 41 bytes, whose only stop is that they are not there.
+#[tactic(auto, using(crate::proofs::TableExits::table_exits))]
 pub fn table_at(s: &[u8], at: usize) -> TableRead
     requires { at ≤ length s.now }
     ensures { TableFound s.now (table.read (drop at s.now)) result }
@@ -66,9 +69,9 @@ pub fn table_at(s: &[u8], at: usize) -> TableRead
                     len: last_len,
                     next: past,
                 } => {
-                    let index_offset = number_here(s, at + 16, 8);
-                    let index_len = number_here(s, at + 24, 8);
-                    let filter_offset = number_here(s, at + 32, 8);
+                    let index_offset = format::number_there(s, at + 16, 8);
+                    let index_len = format::number_there(s, at + 24, 8);
+                    let filter_offset = format::number_there(s, at + 32, 8);
                     TableRead::At(TableSpan {
                         id: at,
                         index_offset,

@@ -22,6 +22,7 @@ pub struct RunSpan {
 }
 
 // How many runs the image at a place has. The first stands a byte after it.
+#[tactic(auto, using(crate::proofs::ThereExits::known_count_exits))]
 pub fn known_count(s: &[u8], at: usize) -> usize
     requires { T (is_got (image.read (drop at s.now))) }
     ensures { RunsThere (drop at s.now) (image.read (drop at s.now)) result }
@@ -30,6 +31,7 @@ pub fn known_count(s: &[u8], at: usize) -> usize
 }
 
 // The head of the run at a place.
+#[tactic(auto, using(crate::proofs::ThereExits::known_run_exits))]
 pub fn known_run(s: &[u8], at: usize) -> RunSpan
     requires { T (is_got (run_head.read (drop at s.now))) }
     ensures { RunThere s.now (run_head.read (drop at s.now)) result }
@@ -51,18 +53,21 @@ fn is_set(b: u8) -> bool
 }
 
 // The last key, if the flag says that there is one.
+#[tactic(auto, unfolding(crate::specs::Spans::last_if, crate::specs::Form::read_if))]
 fn last_there(flagged: bool, s: &[u8], at: usize) -> KeySpan
     requires fact_1 { at ≤ length s.now }
     requires fact_2 { T (is_got (last_if flagged (drop at s.now))) }
     ensures { LastThere s.now flagged (last_if flagged (drop at s.now)) result }
 {
     if flagged {
-        return format::key_there(s, at);
+        format::key_there(s, at)
+    } else {
+        KeySpan { at, len: 0 }
     }
-    KeySpan { at, len: 0 }
 }
 
 // The table at a place.
+#[tactic(auto, using(crate::proofs::ThereExits::table_there_exits))]
 pub fn table_there(s: &[u8], at: usize) -> TableSpan
     requires { T (is_got (table.read (drop at s.now))) }
     ensures { TableThere s.now (table.read (drop at s.now)) result }
@@ -88,53 +93,52 @@ pub fn table_there(s: &[u8], at: usize) -> TableSpan
 }
 
 // The view at a place, and its table.
+#[tactic(auto, using(crate::proofs::ThereExits::known_view_exits))]
 pub fn known_view(s: &[u8], at: usize) -> ViewSpan
     requires { T (is_got (view.read (drop at s.now))) }
     ensures { ViewKnown s.now at result }
 {
     let table = table_there(s, at + 16);
-    let p = table.past;
-    let range = p + 1;
-    if is_set(s[p]) {
+    let range = table.past + 1;
+    if is_set(s[table.past]) {
         let head = s[range];
         let start = format::bound_there(format::start_kind(head), s, range + 1);
         let end = format::bound_there(format::end_kind(head), s, start.at + start.len);
-        return ViewSpan {
+        ViewSpan {
             id: at,
             table,
             shown: true,
             start,
             end,
             past: end.at + end.len,
+        }
+    } else {
+        let none = BoundSpan {
+            kind: Kind::Unbounded,
+            at: range,
+            len: 0,
         };
-    }
-    let none = BoundSpan {
-        kind: Kind::Unbounded,
-        at: range,
-        len: 0,
-    };
-    ViewSpan {
-        id: at,
-        table,
-        shown: false,
-        start: none,
-        end: none,
-        past: range,
+        ViewSpan {
+            id: at,
+            table,
+            shown: false,
+            start: none,
+            end: none,
+            past: range,
+        }
     }
 }
 
 // The place past n views.
+#[tactic(auto, using(crate::proofs::Pasts::view_walk))]
 pub fn views_end(s: &[u8], from: usize, n: usize) -> usize
     requires fact_1 { from ≤ length s.now }
     requires fact_2 { T (is_got (read_many view.read n (drop from s.now))) }
     ensures { Past s.now (read_many view.read n (drop from s.now)) result }
 {
-    let mut seen = 0;
     let mut at = from;
-    while seen < n {
-        let v = view_there(s, at);
-        at = v.past;
-        seen += 1;
+    for _ in 0..n {
+        at = view_there(s, at).past;
     }
     at
 }
@@ -148,6 +152,7 @@ pub struct BlockSpan {
 }
 
 // The block at a place.
+#[tactic(auto, using(crate::proofs::ThereExits::block_there_exits))]
 pub fn block_there(s: &[u8], at: usize) -> BlockSpan
     requires { T (is_got (block.read (drop at s.now))) }
     ensures { BlockThere s.now (block.read (drop at s.now)) result }
@@ -163,17 +168,16 @@ pub fn block_there(s: &[u8], at: usize) -> BlockSpan
 }
 
 // The place past n blocks. Their offsets are not read.
+#[tactic(auto, using(crate::proofs::Pasts::block_walk))]
 pub fn blocks_past(s: &[u8], from: usize, n: usize) -> usize
     requires fact_1 { from ≤ length s.now }
     requires fact_2 { T (is_got (read_many block.read n (drop from s.now))) }
     ensures { Past s.now (read_many block.read n (drop from s.now)) result }
 {
-    let mut seen = 0;
     let mut at = from;
-    while seen < n {
+    for _ in 0..n {
         let first = format::key_there(s, at + 8);
         at = first.at + first.len;
-        seen += 1;
     }
     at
 }

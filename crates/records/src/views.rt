@@ -27,26 +27,29 @@ pub enum ViewRead {
 }
 
 // The visible range, if the flag says that there is one.
+#[tactic(auto, unfolding(crate::specs::Spans::range_if, crate::specs::Form::read_if))]
 fn visible_at(shown: bool, s: &[u8], at: usize) -> RangeRead
     requires { at ≤ length s.now }
     ensures { VisibleFound s.now shown (range_if shown (drop at s.now)) result }
 {
     if shown {
-        return format::range_at(s, at);
-    }
-    let none = BoundSpan {
-        kind: Kind::Unbounded,
-        at,
-        len: 0,
-    };
-    RangeRead::At {
-        start: none,
-        end: none,
-        next: at,
+        format::range_at(s, at)
+    } else {
+        let none = BoundSpan {
+            kind: Kind::Unbounded,
+            at,
+            len: 0,
+        };
+        RangeRead::At {
+            start: none,
+            end: none,
+            next: at,
+        }
     }
 }
 
 // The view at a place whose table was read.
+#[tactic(auto, using(crate::proofs::ViewExits::view_of_exits))]
 fn view_of(s: &[u8], at: usize, t: TableSpan) -> ViewRead
     requires fact_1 { at + 16 ≤ length s.now }
     requires fact_2 { TableThere s.now (table.read (drop (at + 16) s.now)) t }
@@ -77,6 +80,7 @@ fn view_of(s: &[u8], at: usize, t: TableSpan) -> ViewRead
 }
 
 // The view at a place.
+#[tactic(auto, using(crate::proofs::ViewExits::view_exits))]
 pub fn view_span(s: &[u8], at: usize) -> ViewRead
     requires { at ≤ length s.now }
     ensures { ViewFound s.now (view.read (drop at s.now)) result }

@@ -1,10 +1,7 @@
--- `manifest::images::views_judged` meets its contract.
+-- `manifest::views_judged` meets its contract.
 -- Assumes nothing.
 use Rattle.manifest.proofs.ImageExits.{ViewsSeen}
 use Rattle.manifest.proofs.images.views_judged.Given as goal
 
-abbrev pub invariant-loop-left : goal.invariant-loop-left
-invariant-loop-left l = ViewsSeen l.s l.from l.n l.left l.at l.fault l.before
-
-abbrev pub decreases-loop-left : goal.decreases-loop-left
-decreases-loop-left l = l.left
+abbrev pub invariant-loop : goal.invariant-loop
+invariant-loop l = ViewsSeen l.s l.from l.n l.counter l.at l.fault l.before

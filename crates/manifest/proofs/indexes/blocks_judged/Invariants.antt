@@ -3,8 +3,5 @@
 use Rattle.manifest.proofs.IndexExits.{BlocksSeen}
 use Rattle.manifest.proofs.indexes.blocks_judged.Given as goal
 
-abbrev pub invariant-loop-left : goal.invariant-loop-left
-invariant-loop-left l = BlocksSeen l.s l.from l.n l.left l.at l.fault l.before
-
-abbrev pub decreases-loop-left : goal.decreases-loop-left
-decreases-loop-left l = l.left
+abbrev pub invariant-loop : goal.invariant-loop
+invariant-loop l = BlocksSeen l.s l.from l.n l.counter l.at l.fault l.before

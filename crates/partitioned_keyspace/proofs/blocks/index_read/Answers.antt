@@ -10,8 +10,8 @@ returns-then-s-gt65536 c = search (rules, index_exits)
 pub returns-then-s-lt2 : goal.returns-then-s-lt2
 returns-then-s-lt2 c = search (rules, index_exits)
 
-pub number_here-n-requires : goal.number_here-n-requires
-number_here-n-requires c = search (rules, index_exits)
+pub number_there-n-requires : goal.number_there-n-requires
+number_there-n-requires c = search (rules, index_exits)
 
 pub blocks_read-requires : goal.blocks_read-requires
 blocks_read-requires c = search (rules, index_exits)

@@ -1,12 +1,8 @@
 -- `records::blocks_past` meets its contract.
 -- Assumes nothing.
 use Rattle.records.proofs.Pasts.{Walked}
-use Prim.Native.Nat.{◌-◌}
 use Rattle.records.specs.Layouts.{block}
 use Rattle.records.proofs.there.blocks_past.Given as goal
 
-abbrev pub invariant-loop-seen : goal.invariant-loop-seen
-invariant-loop-seen l = Walked block.read l.s l.from l.n l.seen l.at
-
-abbrev pub decreases-loop-seen : goal.decreases-loop-seen
-decreases-loop-seen l = l.n - l.seen
+abbrev pub invariant-loop : goal.invariant-loop
+invariant-loop l = Walked block.read l.s l.from l.n l.counter l.at
