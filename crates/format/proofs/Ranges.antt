@@ -2,8 +2,11 @@
 -- Assumes nothing.
 use Prim.Native.Nat.{ℕ, ◌+◌, ◌≤◌, ◌<◌}
 use native.Mathlib.Numerals.{add-one}
-use mathlib.Core.Path.{◌≡◌, sym, ◌∙◌}
-use mathlib.Core.List.{List}
+use mathlib.Core.Path.{◌≡◌, sym, ◌∙◌, ap}
+use mathlib.Core.List.{List, [], ◌∷◌}
+use mathlib.Core.Bool.{Bool, true, false}
+use lib.Dec.{T, eqb, eqb→eq}
+use Rattle.base.specs.Table.{NoneOf, ruled}
 use lib.ListN.{length, get_or, drop, drop_of_length-le}
 use lib.Seq.{drop-cons}
 use borrow.Author.Tests.{le-leb}
@@ -17,6 +20,22 @@ use Rattle.format.specs.declared.range.BoundRead.{BoundRead}
 use Rattle.format.specs.declared.range.BoundRead.TheVariants.{At as BoundAt, Stop as BoundStop}
 use Rattle.format.specs.declared.range.RangeRead.{RangeRead}
 use Rattle.format.specs.declared.range.RangeRead.TheVariants.{At, Stop}
+
+-- ---- a head byte that is none of the nine valid ones
+abbrev stopped : Head → Bool
+stopped (Kinds a b) = false
+stopped (HeadStop n) = eqb n 2
+
+stopped_is : (h : Head) → T (stopped h) → HeadStop 2 ≡ h
+stopped_is (Kinds a b) w = absurd w
+stopped_is (HeadStop n) w = ap HeadStop (sym (eqb→eq n 2 w))
+
+abbrev valid : List ℕ
+valid = 160 ∷ 144 ∷ 128 ∷ 96 ∷ 80 ∷ 64 ∷ 32 ∷ 16 ∷ 0 ∷ []
+
+pub other_head : (b : ℕ) → b < 256 → NoneOf b valid → HeadStop 2 ≡ head_of b
+unfolding head_of
+other_head b h r = stopped_is (head_of b) (ruled (λ b. stopped (head_of b)) valid 256 tt b h r)
 
 -- ---- ranges
 module _ (s : List ℕ) (at : ℕ) where

@@ -2,7 +2,7 @@
 ghost use Rattle.std.specs.Prelude.{◌≡◌, ◌≤◌, ◌<◌, ◌+◌, length, take, drop};
 ghost use Rattle.format.specs.Range.{head_of, head_byte, kind_number, read_bound, read_range, BoundFound, RangeFound, RangeWhole, BoundInside};
 
-use crate::{KeyRead, end_kind, key_at, start_kind};
+use crate::{KeyRead, key_at};
 use comparable_range::Kind;
 
 // What the head byte says: the kinds of start and end.
@@ -12,15 +12,33 @@ pub enum Head {
     Stop(u8),
 }
 
-// The start's kind in the two highest bits, then the end's, then four bits of padding.
-#[tactic(auto, unfolding(crate::specs::Range::head_of))]
+// The start's kind in the two highest bits, then the end's, then four bits of padding. Document 01 binds this match: the nine
+// valid pairs of kinds, and ranges for padding and kind 3.
 fn head_of(b: u8) -> Head
     ensures { result ≡ head_of b }
 {
-    if b / 64 < 3 && b / 16 % 4 < 3 && b % 16 == 0 {
-        Head::Kinds(start_kind(b), end_kind(b))
-    } else {
-        Head::Stop(2)
+    match b {
+        0 => Head::Kinds(Kind::Unbounded, Kind::Unbounded),
+        16 => Head::Kinds(Kind::Unbounded, Kind::Included),
+        32 => Head::Kinds(Kind::Unbounded, Kind::Excluded),
+        64 => Head::Kinds(Kind::Included, Kind::Unbounded),
+        80 => Head::Kinds(Kind::Included, Kind::Included),
+        96 => Head::Kinds(Kind::Included, Kind::Excluded),
+        128 => Head::Kinds(Kind::Excluded, Kind::Unbounded),
+        144 => Head::Kinds(Kind::Excluded, Kind::Included),
+        160 => Head::Kinds(Kind::Excluded, Kind::Excluded),
+        // Padding.
+        1..=15
+        | 17..=31
+        | 33..=47
+        | 65..=79
+        | 81..=95
+        | 97..=111
+        | 129..=143
+        | 145..=159
+        | 161..=175 => Head::Stop(2),
+        // Kind 3.
+        48..=63 | 112..=127 | 176..=255 => Head::Stop(2),
     }
 }
 

@@ -84,7 +84,7 @@ pub fn order_fault(s: &[u8], before: BoundSpan, start: BoundSpan) -> u8
     requires fact_2 { BoundInside s.now start }
     ensures { result ≡ fault_of (ordered (at_most (cmp_bound true (bound_in s.now before) (bound_in s.now start)))) }
 {
-    if key::at_most(format::span::compare(s, before, s, start, true)) {
+    if format::span::compare(s, before, s, start, true).is_le() {
         8
     } else {
         6
