@@ -1,4 +1,4 @@
--- What is kept of a prefix, and what each case of the code makes of a start or an end: its kind and its size.
+-- What is kept of a prefix, and what each case of `end_size` makes of it.
 -- Assumes nothing.
 use Prim.Native.Nat.{ℕ, zero, suc, ◌+◌, ◌-◌, ◌≤◌}
 use native.Mathlib.Omega.{arith}
@@ -12,54 +12,22 @@ use lib.Seq.{length-take-le}
 use lib.Dec.{eqb}
 use mir.Val.{Fits}
 use mir.Syntax.{w64}
-use borrow.Author.Tests.{ne_eqb, eqb-false, leb-true}
+use borrow.Author.Tests.{eqb-false, leb-true}
 use Rattle.base.specs.Pick.{pick}
 use Rattle.key.specs.Order.{Key}
 use Rattle.comparable_range.specs.Range.{Bound, unbounded, included, excluded, bound_of}
 use Rattle.comparable_range.specs.declared.Kind.{Kind}
 use Rattle.comparable_range.specs.declared.Kind.TheVariants.{Unbounded, Included, Excluded}
 use Rattle.format.specs.Key.{write_key}
-use Rattle.format.specs.Range.{kind_of_bound, write_bound}
+use Rattle.format.specs.Range.{write_bound}
 use Rattle.format.proofs.Layouts.{key_length}
-use Rattle.bytes_range.specs.Prefix.{kept_of, raised, next_prefix, join_start, join_end}
+use Rattle.bytes_range.specs.Prefix.{kept_of, raised, next_prefix, join_end}
 use Rattle.bytes_range.specs.Writing.{kept_for, joins_within}
 
--- ---- kept: n is 0 or one more
-pub none_left : (p : List ℕ) {n : ℕ} → n ≡ 0 → 0 ≡ kept_of p n
-unfolding kept_of
-none_left p e = rw e
-
-pub fewer_left : (p : List ℕ) (m n : ℕ) {r : ℕ} → kept_of p m ≡ kept_of p n → r ≡ kept_of p m → r ≡ kept_of p n
-fewer_left p m n e q = q ∙ e
-
-pub kept_here : (p : List ℕ) (n : ℕ) → (n ≡ 0 → ⊥) → (get_or p (n - 1) 0 ≡ 255 → ⊥) → n ≡ kept_of p n
-unfolding kept_of
-kept_here p zero h e = absurd (h refl)
-kept_here p (suc m) h e =
-    let z : suc m - 1 ≡ m = omega arith in
-    rw (ne_eqb _ _ (rw z at e))
-
-pub ruleset kept_exits = (none_left, fewer_left, kept_here)
-
--- ---- kept_for, and what its answer says of an unbounded end
-module _ (p : Key) (k : Kind) where
-  pub kept_all : {n : ℕ} → k ≡ Unbounded → n ≡ kept_of p (length p) → n ≡ kept_for k p
-  unfolding kept_for
-  kept_all h q = rw h q
-
-  pub kept_in : k ≡ Included → 0 ≡ kept_for k p
-  unfolding kept_for
-  kept_in h = rw h
-
-  pub kept_ex : k ≡ Excluded → 0 ≡ kept_for k p
-  unfolding kept_for
-  kept_ex h = rw h
-
-  pub kept_free : {n : ℕ} → k ≡ Unbounded → n ≡ kept_for k p → n ≡ kept_of p (length p)
-  unfolding kept_for
-  kept_free h q = rw h at q
-
-pub ruleset kept_for_exits = (kept_all, kept_in, kept_ex)
+-- what the answer of `kept_for` says of an unbounded end
+pub kept_free : (p : Key) (k : Kind) {n : ℕ} → k ≡ Unbounded → n ≡ kept_for k p → n ≡ kept_of p (length p)
+unfolding kept_for
+kept_free p k h q = rw h at q
 
 -- what is kept is within the prefix, and its last byte is not FF
 pub kept_le : (p : List ℕ) (n : ℕ) → kept_of p n ≤ n
@@ -79,40 +47,6 @@ kept_last p (suc n) m e q = by_test (eqb (get_or p n 0) 255) refl e (λ r. kept_
     by_test : (t : Bool) → eqb (get_or p n 0) 255 ≡ t → suc m ≡ pick t (kept_of p n) (suc n) → (suc m ≡ kept_of p n → ⊥) → ⊥
     by_test true w r k = k r
     by_test false w r k = let z : m ≡ n = omega arith in eqb-false (get_or p n 0) 255 w (rw z at q)
-
--- ---- the joined start, case by case
-module _ (p s : Key) {k : Kind} where
-  pub start_free : k ≡ Unbounded → length p ≡ 0 → join_start p (bound_of k s) ≡ unbounded
-  unfolding join_start
-  start_free h e = rw h (go p e)
-    where
-      go : (p : Key) → length p ≡ 0 → join_start p unbounded ≡ unbounded
-      go [] e = refl
-      go (b ∷ p) e = absurd (omega arith)
-
-  pub start_bare : k ≡ Unbounded → (length p ≡ 0 → ⊥) → join_start p (bound_of k s) ≡ included p
-  unfolding join_start
-  start_bare h e = rw h (go p e)
-    where
-      go : (p : Key) → (length p ≡ 0 → ⊥) → join_start p unbounded ≡ included p
-      go [] e = absurd (e refl)
-      go (b ∷ p) e = refl
-
-  pub start_in : k ≡ Included → join_start p (bound_of k s) ≡ included (p ++ s)
-  unfolding join_start
-  start_in h = rw h (go p)
-    where
-      go : (p : Key) → join_start p (included s) ≡ included (p ++ s)
-      go [] = refl
-      go (b ∷ p) = refl
-
-  pub start_ex : k ≡ Excluded → join_start p (bound_of k s) ≡ excluded (p ++ s)
-  unfolding join_start
-  start_ex h = rw h (go p)
-    where
-      go : (p : Key) → join_start p (excluded s) ≡ excluded (p ++ s)
-      go [] = refl
-      go (b ∷ p) = refl
 
 -- ---- the joined end
 raised_is : (p : Key) (n : ℕ) → (n ≡ 0 → ⊥) → raised p n ≡ some (take (n - 1) p ++ ((get_or p (n - 1) 0 + 1) ∷ []))
@@ -153,48 +87,14 @@ written_ex b k e = rw e
 size_joined : (p s : Key) → length (write_key (p ++ s)) ≡ 2 + length p + length s
 size_joined p s = key_length (p ++ s) ∙ rw length-append (omega arith)
 
--- ---- start_kind, start_size, put_start
-module _ (p s : Key) {k : Kind} where
-  pub kind_free : k ≡ Unbounded → length p ≡ 0 → Unbounded ≡ kind_of_bound (join_start p (bound_of k s))
-  kind_free h e = sym (ap kind_of_bound (start_free p s h e))
-
-  pub kind_bare : k ≡ Unbounded → (length p ≡ 0 → ⊥) → Included ≡ kind_of_bound (join_start p (bound_of k s))
-  kind_bare h e = sym (ap kind_of_bound (start_bare p s h e))
-
-  pub kind_in : k ≡ Included → Included ≡ kind_of_bound (join_start p (bound_of k s))
-  kind_in h = sym (ap kind_of_bound (start_in p s h))
-
-  pub kind_ex : k ≡ Excluded → Excluded ≡ kind_of_bound (join_start p (bound_of k s))
-  kind_ex h = sym (ap kind_of_bound (start_ex p s h))
-
-  pub size_free : k ≡ Unbounded → length p ≡ 0 → 0 ≡ length (write_bound (join_start p (bound_of k s)))
-  size_free h e = sym (ap length (written_none _ (start_free p s h e)))
-
-  pub size_bare : k ≡ Unbounded → (length p ≡ 0 → ⊥) → 2 + length p ≡ length (write_bound (join_start p (bound_of k s)))
-  size_bare h e = sym (ap length (written_in _ p (start_bare p s h e)) ∙ key_length p)
-
-  pub size_in : k ≡ Included → 2 + length p + length s ≡ length (write_bound (join_start p (bound_of k s)))
-  size_in h = sym (ap length (written_in _ (p ++ s) (start_in p s h)) ∙ size_joined p s)
-
-  pub size_ex : k ≡ Excluded → 2 + length p + length s ≡ length (write_bound (join_start p (bound_of k s)))
-  size_ex h = sym (ap length (written_ex _ (p ++ s) (start_ex p s h)) ∙ size_joined p s)
-
-pub ruleset start_exits = (kind_free, kind_bare, kind_in, kind_ex, size_free, size_bare, size_in, size_ex)
-
--- ---- end_kind, end_size
+-- ---- end_size
 module _ (p e : Key) {k : Kind} where
   module _ (h : k ≡ Unbounded) {n : ℕ} (f : n ≡ kept_for k p) where
     counted : n ≡ kept_of p (length p)
     counted = kept_free p k h f
 
-    pub end_kind_free : n ≡ 0 → Unbounded ≡ kind_of_bound (join_end p (bound_of k e))
-    end_kind_free z = sym (ap kind_of_bound (end_free p e h counted z))
-
     next_end : (n ≡ 0 → ⊥) → join_end p (bound_of k e) ≡ excluded (take (n - 1) p ++ ((get_or p (n - 1) 0 + 1) ∷ []))
     next_end z = rw h (end_next p counted z)
-
-    pub end_kind_next : (n ≡ 0 → ⊥) → Excluded ≡ kind_of_bound (join_end p (bound_of k e))
-    end_kind_next z = sym (ap kind_of_bound (next_end z))
 
     pub end_size_free : n ≡ 0 → 0 ≡ length (write_bound (join_end p (bound_of k e)))
     end_size_free z = sym (ap length (written_none _ (end_free p e h counted z)))
@@ -208,23 +108,14 @@ module _ (p e : Key) {k : Kind} where
     pub kept_fits : length p ≤ 1024 → Fits w64 (2 + n)
     kept_fits l = omega (arith, counted, kept_le p (length p))
 
-  pub end_kind_in : k ≡ Included → Included ≡ kind_of_bound (join_end p (bound_of k e))
-  end_kind_in h = sym (ap kind_of_bound (end_in p e h))
-
-  pub end_kind_ex : k ≡ Excluded → Excluded ≡ kind_of_bound (join_end p (bound_of k e))
-  end_kind_ex h = sym (ap kind_of_bound (end_ex p e h))
+    pub kept_short : length p ≤ 1024 → 2 + n ≤ 1026
+    kept_short l = omega (arith, counted, kept_le p (length p))
 
   pub end_size_in : k ≡ Included → 2 + length p + length e ≡ length (write_bound (join_end p (bound_of k e)))
   end_size_in h = sym (ap length (written_in _ (p ++ e) (end_in p e h)) ∙ size_joined p e)
 
   pub end_size_ex : k ≡ Excluded → 2 + length p + length e ≡ length (write_bound (join_end p (bound_of k e)))
   end_size_ex h = sym (ap length (written_ex _ (p ++ e) (end_ex p e h)) ∙ size_joined p e)
-
-pub ruleset end_exits = (kept_free, end_kind_free, end_kind_next, end_size_free, end_size_next, kept_fits, end_kind_in, end_kind_ex, end_size_in, end_size_ex)
-
--- ---- lengths that join fit
-pub kept_small : (p : Key) {n : ℕ} → n ≡ kept_of p (length p) → length p ≤ 1024 → 2 + n ≤ 1026
-kept_small p q l = omega (arith, q, kept_le p (length p))
 
 module _ (p s : Key) {k : Kind} where
   joined_in : k ≡ Included → joins_within p (bound_of k s) ≡ true → length p + length s ≤ 1024
@@ -247,10 +138,4 @@ module _ (p s : Key) {k : Kind} where
   pub small_ex : k ≡ Excluded → joins_within p (bound_of k s) ≡ true → 2 + length p + length s ≤ 1026
   small_ex h w = omega (arith, joined_ex h w)
 
-  pub within_in : k ≡ Included → joins_within p (bound_of k s) ≡ true → length p + length s ≤ 1024
-  within_in h w = joined_in h w
-
-  pub within_ex : k ≡ Excluded → joins_within p (bound_of k s) ≡ true → length p + length s ≤ 1024
-  within_ex h w = joined_ex h w
-
-pub ruleset fit_exits = (fits_in, fits_ex, small_in, small_ex, kept_small, within_in, within_ex)
+pub ruleset end_exits = (end_size_free, end_size_next, kept_fits, kept_short, end_size_in, end_size_ex, fits_in, fits_ex, small_in, small_ex)

@@ -5,6 +5,5 @@ pub mod Points
 pub mod Joins
 pub mod Dropped
 pub mod JoinPut
-pub mod JoinTests
 pub mod RangePut
 pub mod Spans

@@ -2,7 +2,7 @@
 -- Assumes nothing.
 use Prim.Native.Nat.{ℕ}
 use mathlib.Core.Path.{◌≡◌, sym, ◌∙◌, ap}
-use mathlib.Core.Bool.{Bool, true, false, ◌&&◌}
+use mathlib.Core.Bool.{Bool, true, false, not, ◌&&◌}
 use mathlib.Core.List.{List}
 use lib.ListN.{length, take, drop}
 use Rattle.key.specs.Order.{Key}
@@ -14,37 +14,17 @@ use Rattle.base.specs.declared.Written.{Written}
 use Rattle.base.specs.declared.Written.TheVariants.{Stop}
 use Rattle.format.specs.Range.{range_in, write_range}
 use Rattle.format.specs.declared.range.BoundSpan.{BoundSpan}
-use Rattle.bytes_range.specs.Prefix.{as_point, from_prefix_and_subrange}
+use Rattle.bytes_range.specs.Prefix.{from_prefix_and_subrange}
 use Rattle.bytes_range.specs.Laws.{leaves_none}
-use Rattle.bytes_range.specs.Writing.{point_if, joins_within, range_joins, joined_to}
+use Rattle.bytes_range.specs.Writing.{joins_within, range_joins, joined_to}
 use Rattle.bytes_range.proofs.PrefixLaws.{joined_passes_as_given}
 
 abbrev part : List ℕ → BoundSpan → Key
 part s b = take b.len (drop b.at s)
 
-module _ (l : List ℕ) (s e : BoundSpan) {x y : Key} (p : x ≡ part l s) (q : y ≡ part l e) where
-  pub point_in : (r : Bool) → point_if r x ≡ as_point (range_of s.kind x e.kind y) → point_if r (part l s) ≡ as_point (range_in l s e)
-  point_in r h = rw (p, q) at h
-
 -- ---- join
-module _ (p : Key) (r : Range) where
-  pub start_joins_not : {t : Bool} → t ≡ joins_within p r.start → t ≡ false → false ≡ range_joins p r
-  start_joins_not e h = rw (← e, h)
-
-  pub both_join : {t u : Bool} → t ≡ joins_within p r.start → t ≡ true → u ≡ joins_within p r.end → u ≡ range_joins p r
-  both_join e h f = rw (← e, h, f)
-
-  module _ {t : Bool} (e : t ≡ non_empty r) where
-    pub given_fails : t ≡ false → false ≡ (non_empty r && non_empty (from_prefix_and_subrange p r))
-    given_fails h = rw (← e, h)
-
-    pub joined_fails : {u : Bool} → t ≡ true → u ≡ leaves_none p r → u ≡ true → false ≡ (non_empty r && non_empty (from_prefix_and_subrange p r))
-    joined_fails h f k = rw (joined_passes_as_given p r, ← e, h, ← f, k)
-
-    pub both_pass : {u : Bool} → t ≡ true → u ≡ leaves_none p r → u ≡ false → true ≡ (non_empty r && non_empty (from_prefix_and_subrange p r))
-    both_pass h f k = rw (joined_passes_as_given p r, ← e, h, ← f, k)
-
-pub ruleset pass_exits = (start_joins_not, both_join, given_fails, joined_fails, both_pass)
+pub both_pass : (p : Key) (r : Range) {t u : Bool} → t ≡ non_empty r → t ≡ true → u ≡ leaves_none p r → not u ≡ (non_empty r && non_empty (from_prefix_and_subrange p r))
+both_pass p r e h f = rw (joined_passes_as_given p r, ← e, h, f)
 
 -- what `join` knows of the parts it says of the range
 module _ (l : List ℕ) (start end : BoundSpan) {s e : Key} (hs : s ≡ part l start) (he : e ≡ part l end) (p : Key) (d : List ℕ) where
@@ -94,5 +74,3 @@ module _ (p : Key) (ks ke : Kind) (s e : Key) {t : Bool} (ht : t ≡ range_joins
   end_joins h = and_second (joins_within p (bound_of ks s)) _ (sym ht ∙ h)
 
 pub ruleset join_calls = (stops_3, keeps_3, stops_4, keeps_4, join_reports, join_stands, start_joins, end_joins)
-
-pub ruleset span_exits = (point_in)

@@ -16,127 +16,79 @@ use base::Written;
 use comparable_range::Kind;
 
 // Whether the eight bytes from i are all FF. Their number tells, which the compiler reads by one load.
+#[tactic(auto, using(crate::proofs::Dropped::eight_seen))]
 fn ff8(p: &[u8], i: usize) -> bool
     requires { i + 8 ≤ length p.now }
     ensures { result ≡ all_ff (take 8 (drop i p.now)) }
 {
-    key::reversed(p, i) == 18446744073709551615
+    key::reversed(p, i) == u64::MAX
 }
 
-// The same of sixteen, thirty-two and sixty-four bytes, by halves.
-fn ff16(p: &[u8], i: usize) -> bool
-    requires { i + 16 ≤ length p.now }
-    ensures { result ≡ all_ff (take 16 (drop i p.now)) }
+// A place up to which trailing FF bytes may be dropped, found eight bytes at a time.
+#[tactic(auto, using(crate::proofs::Dropped::drop_exits))]
+fn words_kept(p: &[u8]) -> usize
+    ensures upper_bound { result ≤ length p.now }
+    ensures result_value { kept_of p.now result ≡ kept_of p.now (length p.now) }
 {
-    if ff8(p, i) {
-        return ff8(p, i + 8);
-    }
-    false
-}
-
-fn ff32(p: &[u8], i: usize) -> bool
-    requires { i + 32 ≤ length p.now }
-    ensures { result ≡ all_ff (take 32 (drop i p.now)) }
-{
-    if ff16(p, i) {
-        return ff16(p, i + 16);
-    }
-    false
-}
-
-fn ff64(p: &[u8], i: usize) -> bool
-    requires { i + 64 ≤ length p.now }
-    ensures { result ≡ all_ff (take 64 (drop i p.now)) }
-{
-    if ff32(p, i) {
-        return ff32(p, i + 32);
-    }
-    false
-}
-
-// Of n bytes that end in FF, how many are left once the last sixty-four, eight or one are dropped, which are all FF.
-fn fewer(p: &[u8], n: usize) -> usize
-    requires fact_1 { n ≤ length p.now }
-    requires fact_2 { (n ≡ 0 → ⊥) }
-    requires fact_3 { get_or p.now (n - 1) 0 ≡ 255 }
-    ensures upper_bound { result < n }
-    ensures result_value { kept_of p.now result ≡ kept_of p.now n }
-{
-    if 64 <= n {
-        if ff64(p, n - 64) {
-            return n - 64;
+    for k in 0..p.len() / 8 {
+        let n = p.len() - k * 8;
+        if !ff8(p, n - 8) {
+            return n;
         }
     }
-    if 8 <= n {
-        if ff8(p, n - 8) {
-            return n - 8;
-        }
-    }
-    n - 1
+    p.len() % 8
 }
 
-// How many of the first n bytes are left once trailing FF bytes are dropped.
-// By recursion on n, which falls with each FF dropped: by many a call, since the compiler makes no loop of the calls.
-fn kept(p: &[u8], n: usize) -> usize
-    requires { n ≤ length p.now }
-    ensures { result ≡ kept_of p.now n }
+// How many bytes are left once trailing FF bytes are dropped.
+#[tactic(auto, using(crate::proofs::Dropped::drop_exits))]
+fn kept(p: &[u8]) -> usize
+    ensures { result ≡ kept_of p.now (length p.now) }
 {
-    if n == 0 {
-        return 0;
+    for i in (0..words_kept(p)).rev() {
+        if p[i] != 255 {
+            return i + 1;
+        }
     }
-    let m = n - 1;
-    if p[m] == 255 {
-        return kept(p, fewer(p, n));
-    }
-    n
+    0
 }
 
 // How many bytes of a prefix are kept for an unbounded end; none for an end with a key, which is not made of them.
 // Counted once, for the end's kind, its size and its bytes.
+#[tactic(auto, unfolding(crate::specs::Writing::kept_for))]
 fn kept_for(p: &[u8], k: Kind) -> usize
     ensures { result ≡ kept_for k p.now }
 {
     match k {
-        Kind::Unbounded => kept(p, p.len()),
-        Kind::Included => 0,
-        Kind::Excluded => 0,
+        Kind::Unbounded => kept(p),
+        Kind::Included | Kind::Excluded => 0,
     }
 }
 
 // The kind of a start that follows a prefix.
+#[tactic(auto, unfolding(crate::specs::Prefix::join_start))]
 fn start_kind(p: &[u8], k: Kind, s: &[u8]) -> Kind
     ensures { result ≡ kind_of_bound (join_start p.now (bound_of k s.now)) }
 {
     match k {
-        Kind::Unbounded => {
-            if p.len() == 0 {
-                return Kind::Unbounded;
-            }
-            Kind::Included
-        }
-        Kind::Included => Kind::Included,
-        Kind::Excluded => Kind::Excluded,
+        Kind::Unbounded if !p.is_empty() => Kind::Included,
+        k => k,
     }
 }
 
 // The kind of an end that follows a prefix.
+#[tactic(auto, unfolding(crate::specs::Prefix::join_end, crate::specs::Prefix::next_prefix, crate::specs::Prefix::raised, crate::specs::Writing::kept_for))]
 fn end_kind(p: &[u8], k: Kind, e: &[u8], n: usize) -> Kind
     requires { n ≡ kept_for k p.now }
     ensures { result ≡ kind_of_bound (join_end p.now (bound_of k e.now)) }
 {
     match k {
-        Kind::Unbounded => {
-            if n == 0 {
-                return Kind::Unbounded;
-            }
-            Kind::Excluded
-        }
-        Kind::Included => Kind::Included,
-        Kind::Excluded => Kind::Excluded,
+        Kind::Unbounded if n != 0 => Kind::Excluded,
+        k => k,
     }
 }
 
 // How many bytes a start takes that follows a prefix.
+#[tactic(auto, using(format::proofs::Layouts::key_length, std::proofs::lemmas::Grind::common_steps), unfolding(crate::specs::Prefix::join_start, crate::specs::Writing::joins_within, format::specs::Range::write_bound))]
 fn start_size(p: &[u8], k: Kind, s: &[u8]) -> usize
     requires fact_1 { length p.now ≤ 1024 }
     requires fact_2 { Joins p.now k s.now }
@@ -144,18 +96,14 @@ fn start_size(p: &[u8], k: Kind, s: &[u8]) -> usize
     ensures upper_bound { result ≤ 1026 }
 {
     match k {
-        Kind::Unbounded => {
-            if p.len() == 0 {
-                return 0;
-            }
-            2 + p.len()
-        }
-        Kind::Included => 2 + p.len() + s.len(),
-        Kind::Excluded => 2 + p.len() + s.len(),
+        Kind::Unbounded if p.is_empty() => 0,
+        Kind::Unbounded => 2 + p.len(),
+        Kind::Included | Kind::Excluded => 2 + p.len() + s.len(),
     }
 }
 
 // How many bytes an end takes that follows a prefix.
+#[tactic(auto, using(crate::proofs::Joins::end_exits))]
 fn end_size(p: &[u8], k: Kind, e: &[u8], n: usize) -> usize
     requires fact_1 { n ≡ kept_for k p.now }
     requires fact_2 { length p.now ≤ 1024 }
@@ -164,18 +112,14 @@ fn end_size(p: &[u8], k: Kind, e: &[u8], n: usize) -> usize
     ensures upper_bound { result ≤ 1026 }
 {
     match k {
-        Kind::Unbounded => {
-            if n == 0 {
-                return 0;
-            }
-            2 + n
-        }
-        Kind::Included => 2 + p.len() + e.len(),
-        Kind::Excluded => 2 + p.len() + e.len(),
+        Kind::Unbounded if n == 0 => 0,
+        Kind::Unbounded => 2 + n,
+        Kind::Included | Kind::Excluded => 2 + p.len() + e.len(),
     }
 }
 
 // Writes a start that follows a prefix; answers the place past it.
+#[tactic(auto, unfolding(crate::specs::Prefix::join_start, crate::specs::Writing::joins_within, format::specs::Range::write_bound))]
 fn put_start(out: &mut [u8], at: usize, p: &[u8], k: Kind, s: &[u8]) -> usize
     requires fact_1 { length p.now ≤ 1024 }
     requires fact_2 { Joins p.now k s.now }
@@ -184,25 +128,14 @@ fn put_start(out: &mut [u8], at: usize, p: &[u8], k: Kind, s: &[u8]) -> usize
     ensures out_after { out.new ≡ splice out.old at (start_bytes p.now k s.now) }
 {
     match k {
-        Kind::Unbounded => {
-            if p.len() == 0 {
-                return at;
-            }
-            format::put_key(out, at, p, &p[..0])
-        }
-        Kind::Included => format::put_key(out, at, p, s),
-        Kind::Excluded => format::put_key(out, at, p, s),
+        Kind::Unbounded if p.is_empty() => at,
+        Kind::Unbounded => format::put_key(out, at, p, &[]),
+        Kind::Included | Kind::Excluded => format::put_key(out, at, p, s),
     }
 }
 
-fn next_byte(b: u8) -> u8
-    requires { b ≡ 255 → ⊥ }
-    ensures { result ≡ b + 1 }
-{
-    b + 1
-}
-
 // Writes the next prefix, whose last byte is one more than the last that is kept.
+#[tactic(auto, using(crate::proofs::JoinPut::next_exits))]
 fn put_next(out: &mut [u8], at: usize, p: &[u8], n: usize) -> usize
     requires fact_1 { length p.now ≤ 1024 }
     requires fact_2 { n ≡ kept_of p.now (length p.now) }
@@ -211,12 +144,12 @@ fn put_next(out: &mut [u8], at: usize, p: &[u8], n: usize) -> usize
     ensures value { result ≡ at + length (write_bound (join_end p.now unbounded)) }
     ensures out_after { out.new ≡ splice out.old at (write_bound (join_end p.now unbounded)) }
 {
-    let m = n - 1;
-    let last = [next_byte(p[m])];
-    format::put_key(out, at, &p[..m], &last)
+    let last = p[n - 1] + 1;
+    format::put_key(out, at, &p[..n - 1], &[last])
 }
 
 // Writes an end that follows a prefix; answers the place past it.
+#[tactic(auto, unfolding(crate::specs::Prefix::join_end, crate::specs::Prefix::next_prefix, crate::specs::Prefix::raised, crate::specs::Writing::kept_for, crate::specs::Writing::joins_within, format::specs::Range::write_bound))]
 fn put_end(out: &mut [u8], at: usize, p: &[u8], k: Kind, e: &[u8], n: usize) -> usize
     requires fact_1 { n ≡ kept_for k p.now }
     requires fact_2 { length p.now ≤ 1024 }
@@ -226,18 +159,14 @@ fn put_end(out: &mut [u8], at: usize, p: &[u8], k: Kind, e: &[u8], n: usize) -> 
     ensures out_after { out.new ≡ splice out.old at (end_bytes p.now k e.now) }
 {
     match k {
-        Kind::Unbounded => {
-            if n == 0 {
-                return at;
-            }
-            put_next(out, at, p, n)
-        }
-        Kind::Included => format::put_key(out, at, p, e),
-        Kind::Excluded => format::put_key(out, at, p, e),
+        Kind::Unbounded if n == 0 => at,
+        Kind::Unbounded => put_next(out, at, p, n),
+        Kind::Included | Kind::Excluded => format::put_key(out, at, p, e),
     }
 }
 
 // Writes the range of a prefix and a subrange to the front of a buffer.
+#[tactic(auto, using(crate::proofs::RangePut::range_puts))]
 fn write_range(out: &mut [u8], p: &[u8], ks: Kind, s: &[u8], ke: Kind, e: &[u8], n: usize)
     requires fact_1 { n ≡ kept_for ke p.now }
     requires fact_2 { length p.now ≤ 1024 }
@@ -253,6 +182,7 @@ fn write_range(out: &mut [u8], p: &[u8], ks: Kind, s: &[u8], ke: Kind, e: &[u8],
 }
 
 // The range of a prefix and a subrange, written to the front of a buffer that is long enough.
+#[tactic(auto, using(crate::proofs::RangePut::range_puts, base::proofs::Outcome::written_exits))]
 pub fn from_prefix_and_subrange(
     p: &[u8],
     ks: Kind,
@@ -277,47 +207,26 @@ pub fn from_prefix_and_subrange(
 }
 
 // Whether a bound's key follows a prefix within 1,024 bytes.
+#[tactic(auto, unfolding(crate::specs::Writing::joins_within))]
 pub fn joins_within(p: &[u8], k: Kind, s: &[u8]) -> bool
     requires { length p.now ≤ 1024 }
     ensures { result ≡ joins_within p.now (bound_of k s.now) }
 {
-    if comparable_range::keyed(k) {
-        return s.len() <= 1024 - p.len();
-    }
-    true
+    !comparable_range::keyed(k) || s.len() <= 1024 - p.len()
 }
 
 // Whether a subrange that passes `non_empty` no longer does after the prefix.
+#[tactic(auto, unfolding(crate::specs::Laws::leaves_none_bounds))]
 pub fn leaves_none(p: &[u8], ks: Kind, s: &[u8], ke: Kind, e: &[u8]) -> bool
     ensures { result ≡ leaves_none p.now (range_of ks s.now ke e.now) }
 {
-    match ks {
-        Kind::Included => false,
-        Kind::Excluded => false,
-        Kind::Unbounded => match ke {
-            Kind::Unbounded => false,
-            Kind::Included => false,
-            Kind::Excluded => {
-                if p.len() == 0 {
-                    return false;
-                }
-                e.len() == 0
-            }
-        },
-    }
+    matches!((ks, ke), (Kind::Unbounded, Kind::Excluded)) && !p.is_empty() && e.is_empty()
 }
 
 // Whether a range is one point, which is then its start's key.
+#[tactic(auto, unfolding(crate::specs::Prefix::point_of))]
 pub fn as_point(ks: Kind, s: &[u8], ke: Kind, e: &[u8]) -> bool
     ensures { point_if result s.now ≡ as_point (range_of ks s.now ke e.now) }
 {
-    match ks {
-        Kind::Unbounded => false,
-        Kind::Excluded => false,
-        Kind::Included => match ke {
-            Kind::Unbounded => false,
-            Kind::Excluded => false,
-            Kind::Included => key::cmp(s, e).is_eq(),
-        },
-    }
+    matches!((ks, ke), (Kind::Included, Kind::Included)) && key::cmp(s, e).is_eq()
 }

@@ -16,9 +16,12 @@ pub fn is_point(s: &[u8], start: BoundSpan, end: BoundSpan) -> bool
     requires fact_2 { BoundInside s.now end }
     ensures { point_if result (take start.len (drop start.at s.now)) ≡ as_point (range_in s.now start end) }
 {
-    let ks = start.kind;
-    let ke = end.kind;
-    crate::as_point(ks, format::key_of(s, start), ke, format::key_of(s, end))
+    crate::as_point(
+        start.kind,
+        format::key_of(s, start),
+        end.kind,
+        format::key_of(s, end),
+    )
 }
 
 // Whether both keys of a subrange follow a prefix within 1,024 bytes.
@@ -26,26 +29,19 @@ fn joins(p: &[u8], ks: Kind, s: &[u8], ke: Kind, e: &[u8]) -> bool
     requires { length p.now ≤ 1024 }
     ensures { result ≡ range_joins p.now (range_of ks s.now ke e.now) }
 {
-    if crate::joins_within(p, ks, s) {
-        return crate::joins_within(p, ke, e);
-    }
-    false
+    crate::joins_within(p, ks, s) && crate::joins_within(p, ke, e)
 }
 
 // Whether a subrange passes `non_empty`, and does so after the prefix.
+#[tactic(auto, using(crate::proofs::Spans::both_pass))]
 fn join_passes(p: &[u8], ks: Kind, s: &[u8], ke: Kind, e: &[u8]) -> bool
     ensures { result ≡ (non_empty (range_of ks s.now ke e.now) && non_empty (from_prefix_and_subrange p.now (range_of ks s.now ke e.now))) }
 {
-    if comparable_range::non_empty(ks, s, ke, e) {
-        if crate::leaves_none(p, ks, s, ke, e) {
-            return false;
-        }
-        return true;
-    }
-    false
+    comparable_range::non_empty(ks, s, ke, e) && !crate::leaves_none(p, ks, s, ke, e)
 }
 
 // The range of a prefix and of a subrange that stands in a slice, written to the front of a buffer.
+#[tactic(auto, using(crate::proofs::Spans::join_calls))]
 pub fn join(p: &[u8], l: &[u8], start: BoundSpan, end: BoundSpan, out: &mut [u8]) -> Written
     requires fact_1 { length p.now ≤ 1024 }
     requires fact_2 { BoundInside l.now start }
@@ -57,11 +53,11 @@ pub fn join(p: &[u8], l: &[u8], start: BoundSpan, end: BoundSpan, out: &mut [u8]
     let ke = end.kind;
     let s = format::key_of(l, start);
     let e = format::key_of(l, end);
-    if joins(p, ks, s, ke, e) {
-        if join_passes(p, ks, s, ke, e) {
-            return crate::from_prefix_and_subrange(p, ks, s, ke, e, out);
-        }
+    if !joins(p, ks, s, ke, e) {
+        return Written::Stop(3);
+    }
+    if !join_passes(p, ks, s, ke, e) {
         return Written::Stop(4);
     }
-    Written::Stop(3)
+    crate::from_prefix_and_subrange(p, ks, s, ke, e, out)
 }

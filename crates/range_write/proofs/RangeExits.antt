@@ -114,20 +114,8 @@ module _ (d : List ℕ) (to : ℕ) (ks : Kind) (s : Key) (ke : Kind) (e : Key) (
 
 pub ruleset range_exits = (head_room, start_room, end_room, range_put, range_same)
 
--- ---- bound_size and range_size
-module _ (k : Kind) (key : Key) where
-  pub unbounded_size : k ≡ Unbounded → 0 ≡ length (write_bound (bound_of k key))
-  unbounded_size e = ap length (bound_none k key e)
-
-  pub included_size : k ≡ Included → 2 + length key ≡ length (write_bound (bound_of k key))
-  included_size e = sym (key_length key) ∙ ap length (bound_included k key e)
-
-  pub excluded_size : k ≡ Excluded → 2 + length key ≡ length (write_bound (bound_of k key))
-  excluded_size e = sym (key_length key) ∙ ap length (bound_excluded k key e)
-
+-- ---- range_size
 pub both_sizes : (ks : Kind) (s : Key) (ke : Kind) (e : Key) {m n : ℕ} → m ≡ length (write_bound (bound_of ks s)) → n ≡ length (write_bound (bound_of ke e)) → 1 + m + n ≡ length (write_range (range_of ks s ke e))
 both_sizes ks s ke e p q =
     let l = length-append (write_bound (bound_of ks s)) (write_bound (bound_of ke e)) in
     omega (arith, p, q, l, ap length (range_is ks s ke e))
-
-pub ruleset size_exits = (unbounded_size, included_size, excluded_size, both_sizes)

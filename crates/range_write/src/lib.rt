@@ -10,6 +10,7 @@ ghost use Rattle.range_write.specs.Put.{Put};
 use comparable_range::Kind;
 
 // A key with its length.
+#[tactic(auto, using(crate::proofs::RangeExits::key_exits))]
 fn put_key(key: &[u8], out: &mut [u8], to: usize) -> usize
     requires { to + length (write_key key.now) ≤ length out.old }
     ensures { Put out.old to (write_key key.now) out.new result }
@@ -19,17 +20,18 @@ fn put_key(key: &[u8], out: &mut [u8], to: usize) -> usize
     to + 2 + key.len()
 }
 
+#[tactic(auto, using(crate::proofs::RangeExits::bound_exits))]
 fn put_bound(k: Kind, key: &[u8], out: &mut [u8], to: usize) -> usize
     requires { to + length (write_bound (bound_of k key.now)) ≤ length out.old }
     ensures { Put out.old to (write_bound (bound_of k key.now)) out.new result }
 {
     match k {
         Kind::Unbounded => to,
-        Kind::Included => put_key(key, out, to),
-        Kind::Excluded => put_key(key, out, to),
+        Kind::Included | Kind::Excluded => put_key(key, out, to),
     }
 }
 
+#[tactic(auto, using(crate::proofs::RangeExits::range_exits))]
 pub fn put_range(ks: Kind, s: &[u8], ke: Kind, e: &[u8], out: &mut [u8], to: usize) -> usize
     requires { to + length (write_range (range_of ks s.now ke e.now)) ≤ length out.old }
     ensures { Put out.old to (write_range (range_of ks s.now ke e.now)) out.new result }
@@ -41,18 +43,19 @@ pub fn put_range(ks: Kind, s: &[u8], ke: Kind, e: &[u8], out: &mut [u8], to: usi
 }
 
 // How many bytes a bound takes.
+#[tactic(auto, using(format::proofs::Layouts::key_length, std::proofs::lemmas::Grind::common_steps), unfolding(format::specs::Range::write_bound))]
 fn bound_size(k: Kind, key: &[u8]) -> usize
     requires { length key.now ≤ 65536 }
     ensures { (result ≡ length (write_bound (bound_of k key.now))) × (result ≤ 65538) }
 {
     match k {
         Kind::Unbounded => 0,
-        Kind::Included => 2 + key.len(),
-        Kind::Excluded => 2 + key.len(),
+        Kind::Included | Kind::Excluded => 2 + key.len(),
     }
 }
 
 // How many bytes `put_range` puts.
+#[tactic(auto, using(crate::proofs::RangeExits::both_sizes))]
 pub fn range_size(ks: Kind, s: &[u8], ke: Kind, e: &[u8]) -> usize
     requires fact_1 { length s.now ≤ 65536 }
     requires fact_2 { length e.now ≤ 65536 }

@@ -4,23 +4,11 @@ use Rattle.range_write.proofs.RangeExits.{range_exits}
 use borrow.Author.Rules.{rules}
 use Rattle.range_write.proofs.put_range.Goals as goal
 
-pub head_byte-head-requires : goal.head_byte-head-requires
-head_byte-head-requires c = search (rules, range_exits)
-
 pub put_byte-requires : goal.put_byte-requires
 put_byte-requires c = search (rules, range_exits)
 
-pub overflow_add-to : goal.overflow_add-to
-overflow_add-to c = search (rules, range_exits)
-
-pub put_bound-past-requires : goal.put_bound-past-requires
-put_bound-past-requires c = search (rules, range_exits)
-
 pub put_bound-requires : goal.put_bound-requires
 put_bound-requires c = search (rules, range_exits)
-
-pub shape_of-out : goal.shape_of-out
-shape_of-out c = search (rules, range_exits)
 
 pub returns : goal.returns
 returns c = search (rules, range_exits)
