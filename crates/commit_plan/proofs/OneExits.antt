@@ -4,7 +4,7 @@ use Prim.Native.Nat.{ℕ, ◌+◌, ◌-◌, ◌*◌, ◌≤◌}
 use native.Mathlib.Omega.{arith}
 use mathlib.Core.Path.{◌≡◌, sym, ap, ◌∙◌}
 use mathlib.Core.Bool.{Bool, true, false, ◌&&◌}
-use mathlib.Core.List.{List, [], map, flat_map}
+use mathlib.Core.List.{List, map, flat_map}
 use lib.Dec.{leb, eqb}
 use lib.ListN.{drop}
 use mir.Val.{Fits}

@@ -1,12 +1,11 @@
 -- The exits of the functions that plan one piece of a view.
 -- Assumes nothing.
-use Prim.Native.Nat.{ℕ, ◌+◌, ◌≤◌}
+use Prim.Native.Nat.{ℕ}
 use native.Mathlib.Omega.{arith}
 use mathlib.Core.Path.{◌≡◌, refl, sym, ap, ap₂, ◌∙◌}
 use mathlib.Core.List.{List, [], ◌∷◌}
 use lib.ListN.{length, take, drop}
 use Rattle.comparable_range.specs.Range.{Bound, Range, of, supplied}
-use Rattle.comparable_range.specs.declared.Kind.TheVariants.{Unbounded}
 use Rattle.comparable_range.specs.declared.Side.{Side}
 use Rattle.comparable_range.specs.declared.Side.TheVariants.{First, Second}
 use Rattle.format.specs.Range.{bound_in, range_in, BoundInside, write_range}
@@ -17,32 +16,18 @@ use Rattle.records.specs.declared.ids.ViewId.{ViewId}
 use Rattle.manifest.specs.Ranges.{effective}
 use Rattle.incremental_progress.specs.Entries.{piece_entry}
 use Rattle.commit_rows.specs.Bytes.{row_bytes, row_range, row_length}
-use Rattle.commit_rows.specs.declared.rows.Form.TheVariants as form
 use Rattle.commit_rows.specs.declared.rows.Row.{Row}
 use Rattle.commit_gaps.specs.Found.{Inside, PieceIs}
 use Rattle.commit_gaps.specs.declared.piece.Piece.{Piece}
 use Rattle.commit_gaps.specs.declared.piece.Piece.TheVariants.{Whole, Cut}
 use Rattle.commit_gaps.proofs.Uses.{whole_entry, cut_entry}
-use Rattle.commit_entries.specs.Planned.{RowSmall, Added, AddedCut, PlannedMore, WholeRow, CutRow}
+use Rattle.commit_entries.specs.Planned.{Added, AddedCut, PlannedMore, WholeRow, CutRow}
 use Rattle.commit_entries.specs.declared.Plan.{Plan}
 use Rattle.commit_entries.proofs.Planning.{planned_whole, planned_cut}
 use Rattle.commit_entries.proofs.RowBytes.{cut_view_bytes, cut_entry_bytes, new_id_bytes_lem, range_length_lem, cut_length}
 use Rattle.commit_plan.specs.Held.{view_at, ViewReady}
-use Rattle.commit_plan.specs.Views.{RangeSmall, gap_bucket, PlannedPiece}
+use Rattle.commit_plan.specs.Views.{gap_bucket, whole_row, cut_row, PlannedPiece}
 use Rattle.commit_plan.specs.declared.held.ViewHeld.{ViewHeld}
-
-abbrev open_span : BoundSpan
-open_span = record { kind = Unbounded; at = 0; len = 0 }
-
-abbrev whole_row : ViewHeld → ℕ → Row
-whole_row h gap = record { form = form.Whole; bucket = gap_bucket gap; at = h.at; past = h.past; start = open_span; end = open_span; ten = 0 }
-
-abbrev cut_row : ViewHeld → ℕ → Side → Side → BoundSpan → BoundSpan → Row
-cut_row h gap a b s e = record { form = form.Cut a b; bucket = gap_bucket gap; at = h.at; past = h.end; start = s; end = e; ten = 0 }
-
-side_small : (a : Side) (x y : BoundSpan) (n : ℕ) → x.len ≤ n → y.len ≤ n → (of a x y).len ≤ n
-side_small First x y n h k = h
-side_small Second x y n h k = k
 
 side_inside : (a : Side) (s t : List ℕ) (x y : BoundSpan) → BoundInside s x → BoundInside t y → BoundInside (of a s t) (of a x y)
 side_inside First s t x y h k = h
@@ -56,26 +41,6 @@ module _ (s : List ℕ) (h : ViewHeld) (y : ViewReady s h) (gap : ℕ) where
   abbrev v : View
   v = view_at s h.at
 
-  pub piece_id : h.at + 16 ≤ length s
-  piece_id = omega (arith, y.held.id, y.held.within)
-
-  pub whole_small : RowSmall (whole_row h gap)
-  whole_small = record { order = omega (arith, y.held.id); past = omega (arith, y.small, y.held.within); start = omega arith; end = omega arith }
-
-  pub cut_small :
-      (bounds : RangeSpan) {a b : Side} {m n : BoundSpan}
-      → RangeSmall bounds
-      → m ≡ of a h.range.start bounds.start
-      → n ≡ of b h.range.end bounds.end
-      → RowSmall (cut_row h gap a b m n)
-  cut_small bounds {a} {b} k e f =
-      record {
-        order = omega (arith, y.held.table_id);
-        past = omega (arith, y.small, y.held.table_within);
-        start = rw e (side_small a h.range.start bounds.start 262144 (omega (arith, y.small, y.held.start)) k.start);
-        end = rw f (side_small b h.range.end bounds.end 262144 (omega (arith, y.small, y.held.end)) k.end);
-      }
-
   whole_row_lem : (ids job : List ℕ) → WholeRow s job ids v (gap_bucket gap) (whole_row h gap)
   unfolding row_bytes row_length
   whole_row_lem ids job =
@@ -87,13 +52,14 @@ module _ (s : List ℕ) (h : ViewHeld) (y : ViewReady s h) (gap : ℕ) where
       }
 
   pub piece_whole :
-      (ids : List ℕ) (bounds : RangeSpan) (p : Plan) (d : List ℕ) {q : Plan} {t : List ℕ} {x : Piece}
+      (ids : List ℕ) (bounds : RangeSpan) (p : Plan) (d : List ℕ) {q : Plan} {t : List ℕ} {x : Piece} {r : Row}
       → x ≡ Whole
-      → Added (whole_row h gap) p d q t
+      → r ≡ whole_row h gap
+      → Added r p d q t
       → PlannedPiece s ids h gap bounds x p d q t
-  piece_whole ids bounds p d {q} {t} e a job g i z =
+  piece_whole ids bounds p d {q} {t} e f a job g i z =
       let u : PieceIs (effective v) (range_in job bounds.start bounds.end) g Whole = rw e at z in
-      rw (whole_entry v u) (planned_whole s job ids v (gap_bucket gap) (whole_row h gap) (whole_row_lem ids job) p d q t a)
+      rw (whole_entry v u) (planned_whole s job ids v (gap_bucket gap) (whole_row h gap) (whole_row_lem ids job) p d q t (rw f at a))
 
   module _ (bounds : RangeSpan) (a b : Side) (job : List ℕ) (i : Inside job bounds) where
     abbrev g : Range
@@ -143,13 +109,12 @@ module _ (s : List ℕ) (h : ViewHeld) (y : ViewReady s h) (gap : ℕ) where
         rw (cut_entry v z) (planned_cut s job ids v (supplied (effective v) g a b) (gap_bucket gap) (cut_row h gap a b (of a h.range.start bounds.start) (of b h.range.end bounds.end)) (cut_is ids) p d o t (rw w at x))
 
   pub piece_cut_planned :
-      (ids : List ℕ) (bounds : RangeSpan) (p : Plan) (d : List ℕ) {o : Plan} {t : List ℕ} {x : Piece} {a b : Side} {m n : BoundSpan} {old : ViewId}
+      (ids : List ℕ) (bounds : RangeSpan) (p : Plan) (d : List ℕ) {o : Plan} {t : List ℕ} {x : Piece} {a b : Side} {old : ViewId} {r : Row}
       → x ≡ Cut a b
       → old.0 ≡ take 16 (drop h.at s)
-      → m ≡ of a h.range.start bounds.start
-      → n ≡ of b h.range.end bounds.end
-      → AddedCut old ids (cut_row h gap a b m n) p d o t
+      → r ≡ cut_row h gap a b (of a h.range.start bounds.start) (of b h.range.end bounds.end)
+      → AddedCut old ids r p d o t
       → PlannedPiece s ids h gap bounds x p d o t
-  piece_cut_planned ids bounds p d {o} {t} {a = a} {b = b} e i f w x job q j z = piece_cut bounds a b job j ids p d q i (rw e at z) (rw (f, w) at x)
+  piece_cut_planned ids bounds p d {o} {t} {a = a} {b = b} e i f x job q j z = piece_cut bounds a b job j ids p d q i (rw e at z) (rw f at x)
 
-pub ruleset piece_exits = (piece_id, whole_small, cut_small, piece_whole, piece_cut_planned)
+pub ruleset piece_exits = (piece_whole, piece_cut_planned)

@@ -20,7 +20,6 @@ use Rattle.records.specs.Layouts.{run}
 use Rattle.records.proofs.RecordLayouts.{run_layout}
 use Rattle.manifest.specs.Checks.{all, table_passes, ascend, starts, image_checks}
 use Rattle.commit_index.specs.Index.{image_of, IndexHold, IndexedFound}
-use Rattle.commit_index.specs.Index as index
 use Rattle.commit_index.specs.declared.runs.IndexedRun.{IndexedRun}
 use Rattle.incremental_progress.specs.Entries.{Entry, part_entries}
 use Rattle.incremental_progress.specs.Plans.{run_draws, draw_entries, view_count, views_length, runs_length, image_length, view_bytes, entry_bytes}

@@ -3,8 +3,8 @@
 use Prim.Native.Nat.{ℕ, ◌+◌, ◌-◌, ◌≤◌, ◌<◌}
 use native.Mathlib.Omega.{arith}
 use mathlib.Core.Path.{◌≡◌, sym, subst, ◌∙◌}
-use mathlib.Core.List.{List, [], ◌∷◌, ◌++◌, map, flat_map, append-nil, append_assoc}
-use lib.ListN.{length, drop, length-append, drop_of_length-le}
+use mathlib.Core.List.{List, [], ◌∷◌, ◌++◌, map, append-nil, append_assoc}
+use lib.ListN.{length, drop, length-append}
 use Rattle.base.specs.Lists.{map_append}
 use Rattle.comparable_range.specs.Range.{Range}
 use Rattle.format.specs.Range.{range_in}
@@ -97,12 +97,6 @@ module _ {image job ids gap_table : List ℕ} {m : ℕ} {h : ViewHeld} {p : Plan
       let b : gaps_met 0 (job_gaps job) (shown image h) ≡ x.met = x.gaps_are ∙ rw f (append-nil x.met) in
       rw (a, b) x.planned
 
-  pub view_all : m ≤ g → PlannedMore image job ids (gap_entries (job_gaps job) (view_at image h.at)) (map gap_bucket (gaps_met 0 (job_gaps job) (effective (view_at image h.at)))) p d q t
-  unfolding pieces gaps_met flat_map
-  view_all l =
-      let z : drop g (job_gaps job) ≡ [] = drop_of_length-le (job_gaps job) {i = g} (omega (arith, x.hold.count)) in
-      ended (rw z) (rw z)
-
   module _ {r : NextPiece} (f : NextFound job (range_in image h.range.start h.range.end) m g r) where
     found : NextFound job (shown image h) m g r
     found = subst (λ (s : Range). NextFound job s m g r) x.view.held.range_is f
@@ -152,4 +146,4 @@ module _ {image job ids gap_table : List ℕ} {m : ℕ} {h : ViewHeld} {p : Plan
               ready = ready_most z (omega (arith, n, z.few));
             }
 
-pub ruleset view_exits = (view_begin, view_inside, view_held, view_plan, view_all, view_none, view_gap, view_bounds, view_less, view_next, view_more_same, view_onward)
+pub ruleset view_exits = (view_begin, view_inside, view_held, view_plan, view_none, view_gap, view_bounds, view_less, view_next, view_more_same, view_onward)

@@ -40,11 +40,10 @@ pub fn view_held(
     ensures reached { Reached (effective (view_at image.now at)).start job.now m result.gap }
 {
     let v = records::view_there(image, at);
-    let t = v.table;
     let range = manifest::effective(image, v);
     ViewHeld {
         at,
-        end: t.past,
+        end: v.table.past,
         past: v.past,
         range,
         gap: commit_gaps::first_gap(image, range.start, job, gaps, m, from),

@@ -55,24 +55,18 @@ fn plan_one<'a>(
     requires fact_4 { PlanReady ids.now 274877906944 p }
     ensures { RunPlannedMore image.now job.now ids.now run p rows.old result rows.new }
 {
-    if run.id == head.destination {
-        let plan = plan_run(image, job, ids, gaps, head.gaps, rows, run, p);
+    let kind = if run.id == head.destination {
+        RunKind::Destination
+    } else if commit_durable::is_source(job, head.from, head.sources, run.id) {
+        RunKind::Source
+    } else {
         return RunPlanned {
-            kind: RunKind::Destination,
-            plan,
+            kind: RunKind::Other,
+            plan: p,
         };
-    }
-    if commit_durable::is_source(job, head.from, head.sources, run.id) {
-        let plan = plan_run(image, job, ids, gaps, head.gaps, rows, run, p);
-        return RunPlanned {
-            kind: RunKind::Source,
-            plan,
-        };
-    }
-    RunPlanned {
-        kind: RunKind::Other,
-        plan: p,
-    }
+    };
+    let plan = plan_run(image, job, ids, gaps, head.gaps, rows, run, p);
+    RunPlanned { kind, plan }
 }
 
 // How many views and bytes a run has afterwards.
@@ -115,21 +109,18 @@ fn count_run(
     requires fact_2 { CountReady run a one outputs }
     ensures { RunCounted k run one a outputs runs.old result runs.new }
 {
-    let kind = one.kind;
-    let p = a.plan;
-    let q = one.plan;
-    let size = run_size(run, kind, p, q, outputs);
+    let size = run_size(run, one.kind, a.plan, one.plan, outputs);
     let row = RunRow {
         id: run.id as usize,
         views: run.views,
         first: run.first,
         past: run.past,
-        kind,
-        rows: q.rows - p.rows,
+        kind: one.kind,
+        rows: one.plan.rows - a.plan.rows,
     };
     commit_rows::put_run_row(runs, k, row);
     ImagePlan {
-        plan: q,
+        plan: one.plan,
         outputs: a.outputs,
         bytes: a.bytes + 6 + size.bytes,
         fits: a.fits && size.views <= 1024,
@@ -157,19 +148,16 @@ pub fn plan_runs<'a>(
     ensures rows_len_unchanged { length rows.new ≡ length rows.old }
 {
     let outputs = head.outputs;
-    let mut k = 0;
     let mut a = ImagePlan {
         plan: outputs,
         outputs: outputs.rows,
         bytes: 1,
         fits: true,
     };
-    while k < head.runs {
+    for k in 0..head.runs {
         let run = commit_index::indexed_run(image, index, head.runs, k);
-        let p = a.plan;
-        let one = plan_one(image, job, ids, gaps, rows, run, head, p);
+        let one = plan_one(image, job, ids, gaps, rows, run, head, a.plan);
         a = count_run(runs, k, run, one, a, outputs);
-        k += 1;
     }
     a
 }

@@ -28,16 +28,14 @@ pub fn plan_run<'a>(
     requires gaps_hold_3 { PlanReady ids.now 274877906944 p }
     ensures { PlannedViews image.now job.now ids.now (views_at image.now run.first run.views) p rows.old result rows.new }
 {
-    let mut seen = 0;
     let mut at = run.first;
     let mut from = 0;
     let mut plan = p;
-    while seen < run.views {
+    for _ in 0..run.views {
         let h = view_held(image, at, job, gaps, m, from);
         plan = plan_view(image, job, ids, gaps, m, rows, h, plan);
         from = h.gap;
         at = h.past;
-        seen += 1;
     }
     plan
 }

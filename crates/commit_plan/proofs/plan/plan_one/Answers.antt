@@ -1,29 +1,16 @@
 -- `commit_plan::plan::plan_one` meets its contract.
 -- Assumes nothing.
-use Rattle.commit_plan.proofs.OneExits.{one_exits}
+use Rattle.commit_plan.proofs.OneExits.{one_destination, one_source, one_exits}
 use borrow.Author.Rules.{rules}
+use Rattle.commit_plan.proofs.plan.plan_one.Goals.{then-run-head, else-run-head+then-is_source}
 use Rattle.commit_plan.proofs.plan.plan_one.Goals as goal
 
-pub plan_run-plan-requires : goal.plan_run-plan-requires
-plan_run-plan-requires c = search (rules, one_exits)
-
-pub shape_of-rows-then-run-head : goal.shape_of-rows-then-run-head
-shape_of-rows-then-run-head c = search (rules, one_exits)
-
-pub returns-then-run-head : goal.returns-then-run-head
-returns-then-run-head c = search (rules, one_exits)
-
-pub is_source-requires : goal.is_source-requires
-is_source-requires c = search (rules, one_exits)
-
-pub plan_run-plan-requires-then-is_source : goal.plan_run-plan-requires-then-is_source
-plan_run-plan-requires-then-is_source c = search (rules, one_exits)
-
-pub shape_of-rows-then-is_source : goal.shape_of-rows-then-is_source
-shape_of-rows-then-is_source c = search (rules, one_exits)
-
-pub returns-then-is_source : goal.returns-then-is_source
-returns-then-is_source c = search (rules, one_exits)
+pub returns-else-is_source : goal.returns-else-is_source
+returns-else-is_source c = search (rules, one_exits)
 
 pub returns : goal.returns
-returns c = search (rules, one_exits)
+returns c =
+    elim c.if-run-head.branch [
+      | then-run-head w ↦ rw w.kind-is (one_destination c.requires.fact_2 c.args.image.now c.args.ids.now c.args.run c.args.p c.args.rows.now c.plan_run-plan.ensures w.if-run-head.true)
+      | else-run-head+then-is_source w ↦ rw w.kind-is (one_source c.requires.fact_2 c.args.image.now c.args.ids.now c.args.run c.args.p c.args.rows.now w.if-run-head.false w.is_source.ensures w.if-is_source.true c.plan_run-plan.ensures)
+    ]

@@ -4,8 +4,8 @@ use Rattle.commit_plan.proofs.ViewExits.{ViewSeen}
 use Prim.Native.Nat.{◌-◌}
 use Rattle.commit_plan.proofs.views.plan_view.Given as goal
 
-abbrev pub invariant-loop-g : goal.invariant-loop-g
-invariant-loop-g l = ViewSeen l.image l.job l.ids l.gaps l.m l.h l.initial.plan l.initial.rows l.g l.plan l.rows
+abbrev pub invariant-loop-gap : goal.invariant-loop-gap
+invariant-loop-gap l = ViewSeen l.image l.job l.ids l.gaps l.m l.h l.initial.plan l.initial.rows l.g l.plan l.rows
 
-abbrev pub decreases-loop-g : goal.decreases-loop-g
-decreases-loop-g l = l.m - l.g
+abbrev pub decreases-loop-gap : goal.decreases-loop-gap
+decreases-loop-gap l = l.m - l.g
