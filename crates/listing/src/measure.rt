@@ -14,7 +14,7 @@ use format::BoundSpan;
 use format::span::RangeSpan;
 use records::ViewSpan;
 
-// As long as a start is a bound's text at an end: a dash, or a bracket and two digits for each byte of the key.
+// How long the text of a bound is, the same at a start and at an end: a dash, or a bracket and two digits for each byte of the key.
 #[tactic(auto, using(crate::proofs::Lengths::bound_exits))]
 fn bound_len(s: &[u8], b: BoundSpan) -> usize
     requires fact_1 { length s.now ≤ 65536 }

@@ -3,7 +3,7 @@
 -- Assumes nothing.
 use Prim.Native.Nat.{ℕ, ◌+◌, ◌-◌, ◌^◌, ◌≤◌, ◌<◌}
 use native.Mathlib.Omega.{arith}
-use native.Mathlib.Nat.{add-zero}
+use native.Mathlib.Nat.{add-zero, sub-zero}
 use mathlib.Core.Path.{◌≡◌, refl, sym, ap, ◌∙◌}
 use mathlib.Core.Bool.{Bool, true, false, ◌&&◌, true≢false}
 use mathlib.Core.List.{List, [], ◌∷◌, ◌++◌, map-append}
@@ -50,6 +50,9 @@ led_less p seen first s = go (ltb p.at_most seen)
     go true h = absurd (true≢false (sym h))
     go false h = h
 
+pub not_known : (a b : Key) → KnownBelow false a b
+not_known a b = record { tells = λ h. absurd (true≢false (sym h)) }
+
 pub below_end :
     (x : IndexPoints) (first s e : Key) {t b : Bool} {o : Ordering}
     → t ≡ key_at_most s e
@@ -86,14 +89,10 @@ one_block x before first s e ho hu ha hb h =
     rw (ha, hb, h, ho, hu, grown_led x.start x.partitions first s, grown_led x.end x.partitions first e)
 
 -- ---- blocks_read
--- whether the end is not below the start
-pub in_order : (a b : Key) {o : Ordering} {r : Bool} → o ≡ cmp_key a b → r ≡ at_most o → r ≡ key_at_most a b
-in_order a b f g = rw (g, f)
-
-pub record BlocksSeen (s : List ℕ) (from n : ℕ) (start end : Key) (x : IndexPoints) (before : BoundSpan) (at left : ℕ) : Type 0 where
+pub record BlocksSeen (s : List ℕ) (from n : ℕ) (start end : Key) (x : IndexPoints) (before : BoundSpan) (at k : ℕ) : Type 0 where
   pub count : n < 2 ^ 64
   pub seen : List Block
-  pub reading : Reading block.read s from n left at seen
+  pub reading : Reading block.read s from n (n - k) at seen
   pub so_far : x ≡ index_points start end (first_keys seen)
   pub last : key_in s before.at before.len ≡ last_from [] (first_keys seen)
   pub last_in_lem : BoundInside s before
@@ -104,63 +103,67 @@ pub blocks_begin :
     → n < 2 ^ 64
     → x ≡ nothing_seen
     → b ≡ key_span from 0
-    → BlocksSeen s from n start end x b from n
+    → BlocksSeen s from n start end x b from 0
 unfolding partition_point
 blocks_begin s from n start end h k ex eb =
     rw (ex, eb)
-    (record { count = k; seen = []; reading = begin block.read s from n h; so_far = refl; last = refl; last_in_lem = rw add-zero h })
+    (record { count = k; seen = []; reading = rw sub-zero (begin block.read s from n h); so_far = refl; last = refl; last_in_lem = rw add-zero h })
 
-module _ {s : List ℕ} {from n : ℕ} {start end : Key} {x : IndexPoints} {before : BoundSpan} {at left : ℕ} (p : BlocksSeen s from n start end x before at left) where
+module _ {s : List ℕ} {from n : ℕ} {start end : Key} {x : IndexPoints} {before : BoundSpan} {at k : ℕ} (p : BlocksSeen s from n start end x before at k) where
   pub blocks_at : at ≤ length s
   blocks_at = p.reading.within
 
   pub before_in : BoundInside s before
   before_in = p.last_in_lem
 
-  pub block_room : 0 < left → x.partitions + 1 < 2 ^ 64
+  pub block_room : k < n → x.partitions + 1 < 2 ^ 64
   block_room h =
       let e : x.partitions ≡ length p.seen = ap (λ y. y.partitions) p.so_far ∙ length-map p.seen (λ b. b.first) in
       omega (arith, p.reading.count, p.count)
 
-  pub blocks_left : left ≤ 0 → at < length s → reading_of (Stop 1) ≡ points_in start end (ended (read_many block.read n (drop from s)))
-  blocks_left h k = rw (all_read p.reading h, drop-cons s at 0)
+  pub blocks_left : n ≤ k → at < length s → reading_of (Stop 1) ≡ points_in start end (ended (read_many block.read n (drop from s)))
+  blocks_left h l = rw (all_read p.reading (omega arith), drop-cons s at 0)
 
-  pub blocks_all : left ≤ 0 → length s ≤ at → reading_of (At x) ≡ points_in start end (ended (read_many block.read n (drop from s)))
-  blocks_all h k = rw (all_read p.reading h, drop_of_length-le s {i = at} k, p.so_far)
+  pub blocks_all : n ≤ k → length s ≤ at → reading_of (At x) ≡ points_in start end (ended (read_many block.read n (drop from s)))
+  blocks_all h l = rw (all_read p.reading (omega arith), drop_of_length-le s {i = at} l, p.so_far)
 
-  module _ (h : 0 < left) {r : BlockRead} (f : BlockFound s (block.read (drop at s)) r) where
-    pub blocks_stop : {k : ℕ} → r ≡ BlockStop k → reading_of (Stop k) ≡ points_in start end (ended (read_many block.read n (drop from s)))
-    blocks_stop {k} q = rw (stopped p.reading {k = k} h (sym f.meaning ∙ rw q))
+  module _ (h : k < n) {r : BlockRead} (f : BlockFound s (block.read (drop at s)) r) where
+    some_left : 0 < n - k
+    some_left = omega arith
+
+    pub blocks_stop : {j : ℕ} → r ≡ BlockStop j → reading_of (Stop j) ≡ points_in start end (ended (read_many block.read n (drop from s)))
+    blocks_stop {j} q = rw (stopped p.reading {k = j} some_left (sym f.meaning ∙ rw q))
 
     module _ {o i m next : ℕ} (q : r ≡ BlockAt o i m next) where
       pub first_in : {first : BoundSpan} → first ≡ key_span i m → BoundInside s first
       first_in e = rw e (rw q at f.inside).0
 
       onward_from :
-          {y : IndexPoints} {b k : Key}
+          {y : IndexPoints} {b g : Key}
           → b ≡ key_in s before.at before.len
-          → k ≡ key_in s i m
-          → y ≡ with_block x b k start end
-          → BlocksSeen s from n start end y (key_span i m) next (left - 1)
-      onward_from {y} {b} {k} hb hk hy =
+          → g ≡ key_in s i m
+          → y ≡ with_block x b g start end
+          → BlocksSeen s from n start end y (key_span i m) next (k + 1)
+      onward_from {y} {b} {g} hb hk hy =
+          let one_less : n - k - 1 ≡ n - (k + 1) = omega arith in
           let here : Block = record { offset = o; first = key_in s i m } in
           let more : first_keys (p.seen ++ (here ∷ [])) ≡ first_keys p.seen ++ (key_in s i m ∷ []) = map-append (λ b. b.first) p.seen (here ∷ []) in
           record {
             count = p.count;
             seen = p.seen ++ (here ∷ []);
-            reading = onward p.reading h (sym f.meaning ∙ rw q) (rw q at f.inside).1;
+            reading = rw (← one_less) (onward p.reading some_left (sym f.meaning ∙ rw q) (rw q at f.inside).1);
             so_far = hy ∙ rw (hb, hk, p.so_far, p.last, more) (with_block_is start end (first_keys p.seen) (key_in s i m));
             last = sym (ap (last_from []) more ∙ last_more [] (first_keys p.seen) (key_in s i m));
             last_in_lem = (rw q at f.inside).0;
           }
 
       pub blocks_onward :
-          {first : BoundSpan} {y : IndexPoints} {b k : Key}
+          {first : BoundSpan} {y : IndexPoints} {b g : Key}
           → first ≡ key_span i m
           → b ≡ key_in s before.at before.len
-          → k ≡ key_in s first.at first.len
-          → y ≡ with_block x b k start end
-          → BlocksSeen s from n start end y first next (left - 1)
+          → g ≡ key_in s first.at first.len
+          → y ≡ with_block x b g start end
+          → BlocksSeen s from n start end y first next (k + 1)
       blocks_onward e hb hk hy = rw e (onward_from hb (rw e at hk) hy)
 
 pub ruleset blocks_exits = (blocks_begin, blocks_at, before_in, block_room, blocks_left, blocks_all, blocks_stop, first_in, blocks_onward)

@@ -9,7 +9,6 @@ use Rattle.base.specs.Pick.{pick}
 use Rattle.base.specs.Outcome.{Outcome, stop, answer, and_then}
 use Rattle.key.specs.Order.{Key}
 use Rattle.comparable_range.specs.Range.{Range, non_empty}
-use Rattle.comparable_range.specs.declared.Kind.TheVariants.{Included}
 use Rattle.format.specs.Range.{read_range, range_in, BoundInside, RangeWhole}
 use Rattle.format.specs.Whole.{whole}
 use Rattle.format.specs.declared.range.BoundSpan.{BoundSpan}
@@ -31,9 +30,6 @@ use Rattle.partitioned_keyspace.proofs.Coverings.{covering_is}
 use Rattle.partitioned_keyspace.proofs.CallExits.{There, there, not_there, then_checked, both_checked}
 
 -- ---- looked_up
-pub point_end : {t : Bool} (b : BoundSpan) → t ≡ true → record { kind = Included; at = b.at; len = 0 } ≡ looked_up t b
-point_end b e = rw e
-
 pub looked_up_in : (s : List ℕ) (t : Bool) (b : BoundSpan) {r : BoundSpan} → BoundInside s b → r ≡ looked_up t b → BoundInside s r
 looked_up_in s true b h e = rw e (omega arith)
 looked_up_in s false b h e = rw e h

@@ -6,7 +6,7 @@ ghost use Rattle.records.specs.Form.{read_many};
 ghost use Rattle.records.specs.Layouts.{block, index};
 ghost use Rattle.partitioned_keyspace.specs.KeyPoints.{nothing_seen, key_span, with_block, reading_of, points_in};
 
-use crate::point::{KeyPoint, grown, led, led_to_end};
+use crate::point::{KeyPoint, grown, led};
 use comparable_range::Kind;
 use format::BoundSpan;
 use std::cmp::Ordering;
@@ -30,20 +30,14 @@ pub enum Reading {
 fn still_ascends(so_far: bool, before: &[u8], first: &[u8]) -> bool
     ensures { result ≡ (so_far && key_at_most before.now first.now) }
 {
-    if so_far {
-        return key::cmp(before, first).is_le();
-    }
-    false
+    so_far && key::at_most(key::cmp(before, first))
 }
 
 // Whether a first key of this order to the start is below the end, as far as the start tells.
 fn below_start(ordered: bool, o: Ordering) -> bool
     ensures { result ≡ (ordered && is_less o) }
 {
-    if ordered {
-        return o.is_lt();
-    }
-    false
+    ordered && key::is_less(o)
 }
 
 // With one more block, whose first key comes after another. A first key below the start is below an end that is not below
@@ -61,14 +55,12 @@ fn with_block<'a>(
     ensures { result ≡ with_block x before.now first.now start.now end.now }
 {
     let n = x.partitions;
-    let s = x.start;
-    let e = x.end;
-    let o = led(s, n, first, start);
-    let u = led_to_end(e, n, first, end, below_start(ordered, o));
+    let o = led(x.start, n, first, start, false);
+    let u = led(x.end, n, first, end, below_start(ordered, o));
     IndexPoints {
         partitions: n + 1,
-        start: grown(s, n, o),
-        end: grown(e, n, u),
+        start: grown(x.start, n, o),
+        end: grown(x.end, n, u),
         ascends: still_ascends(x.ascends, before, first),
     }
 }
@@ -109,8 +101,7 @@ fn blocks_read<'a>(s: &'a [u8], from: usize, n: usize, start: &'a [u8], end: &'a
     let mut x = nothing_seen();
     let mut before = key_span(from, 0);
     let mut at = from;
-    let mut left = n;
-    while 0 < left {
+    for _ in 0..n {
         match records::block_at(s, at) {
             BlockRead::Stop(k) => {
                 return Reading::Stop(k);
@@ -132,7 +123,6 @@ fn blocks_read<'a>(s: &'a [u8], from: usize, n: usize, start: &'a [u8], end: &'a
                 );
                 before = first;
                 at = next;
-                left -= 1;
             }
         }
     }

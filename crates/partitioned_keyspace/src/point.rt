@@ -1,7 +1,6 @@
 // The two numbers that every lookup of a key is reckoned from.
 ghost use Rattle.std.specs.Prelude.{◌≡◌, ◌<◌, ◌+◌, ◌^◌};
 ghost use Rattle.base.specs.Outcome.{answer};
-ghost use Rattle.partitioned_keyspace.specs.Partitions.{key_equal};
 ghost use Rattle.partitioned_keyspace.specs.Calls.{found_of};
 ghost use Rattle.partitioned_keyspace.specs.KeyPoints.{grown_by, led_order, KnownBelow, count_for, first_of, or_after_of, last_of, start_of, up_to_excluded, end_of};
 
@@ -22,61 +21,37 @@ pub enum Pointed {
     Stop(u8),
 }
 
-// Whether two keys are the same.
-pub fn key_equal(a: &[u8], b: &[u8]) -> bool
-    ensures { result ≡ key_equal a.now b.now }
-{
-    key::cmp(a, b).is_eq()
-}
-
 // With one more first key, by its order to the key. One below it counts only if none before was equal.
 pub fn grown(p: KeyPoint, seen: usize, o: Ordering) -> KeyPoint
     requires { seen + 1 < 2 ^ 64 }
     ensures { result ≡ grown_by p seen o }
 {
     match o {
-        Ordering::Less => {
-            if p.below < seen {
-                return KeyPoint {
-                    below: p.below,
-                    at_most: seen + 1,
-                };
-            }
-            KeyPoint {
-                below: seen + 1,
-                at_most: seen + 1,
-            }
-        }
-        Ordering::Equal => KeyPoint {
-            below: p.below,
+        Order::Less if seen <= p.below => KeyPoint {
+            below: seen + 1,
             at_most: seen + 1,
         },
-        Ordering::Greater => p,
+        Order::Less | Order::Equal => KeyPoint {
+            at_most: seen + 1,
+            ..p
+        },
+        Order::Greater => p,
     }
 }
 
-// The order of one more first key to a key. Once a first key was above it, no more are compared: none of them counts.
-pub fn led(p: KeyPoint, seen: usize, first: &[u8], key: &[u8]) -> Ordering
+// The order of one more first key to a key. Once a first key was above it, no more are compared: none of them counts. Nor is
+// one compared that is known to be below it.
+pub fn led(p: KeyPoint, seen: usize, first: &[u8], key: &[u8], below: bool) -> Order
+    requires { KnownBelow below first.now key.now }
     ensures { result ≡ led_order p seen first.now key.now }
 {
     if p.at_most < seen {
-        return Ordering::Greater;
+        Order::Greater
+    } else if below {
+        Order::Less
+    } else {
+        key::cmp(first, key)
     }
-    key::cmp(first, key)
-}
-
-// The same to the end of a range. A first key that is known to be below it is not compared.
-pub fn led_to_end(p: KeyPoint, seen: usize, first: &[u8], end: &[u8], below: bool) -> Ordering
-    requires { KnownBelow below first.now end.now }
-    ensures { result ≡ led_order p seen first.now end.now }
-{
-    if p.at_most < seen {
-        return Ordering::Greater;
-    }
-    if below {
-        return Ordering::Less;
-    }
-    key::cmp(first, end)
 }
 
 // `partition_point`.
@@ -94,22 +69,19 @@ pub fn first_of(p: KeyPoint) -> Found
     ensures { found_of result ≡ answer (first_of p) }
 {
     if 0 < p.below {
-        return Found::At(p.below - 1);
+        Found::At(p.below - 1)
+    } else if 0 < p.at_most {
+        Found::At(0)
+    } else {
+        Found::Nothing
     }
-    if 0 < p.at_most {
-        return Found::At(0);
-    }
-    Found::Nothing
 }
 
 // `first_partition_including_or_after_key`.
 pub fn or_after(p: KeyPoint) -> usize
     ensures { result ≡ or_after_of p }
 {
-    if 0 < p.below {
-        return p.below - 1;
-    }
-    0
+    p.below.saturating_sub(1)
 }
 
 // `last_partition_including_key`.
@@ -117,9 +89,10 @@ pub fn last_of(p: KeyPoint) -> Found
     ensures { found_of result ≡ answer (last_of p) }
 {
     if 0 < p.at_most {
-        return Found::At(p.at_most - 1);
+        Found::At(p.at_most - 1)
+    } else {
+        Found::Nothing
     }
-    Found::Nothing
 }
 
 // Where a covering starts.
@@ -128,8 +101,7 @@ pub fn start_place(kind: Kind, p: KeyPoint) -> usize
 {
     match kind {
         Kind::Unbounded => 0,
-        Kind::Included => or_after(p),
-        Kind::Excluded => or_after(p),
+        Kind::Included | Kind::Excluded => or_after(p),
     }
 }
 
@@ -138,9 +110,10 @@ fn up_to_excluded(p: KeyPoint) -> usize
     ensures { result ≡ up_to_excluded p }
 {
     if p.below < p.at_most {
-        return p.at_most - 1;
+        p.at_most - 1
+    } else {
+        p.at_most
     }
-    p.at_most
 }
 
 // Where a covering ends that starts at a place.
@@ -149,17 +122,8 @@ pub fn end_place(kind: Kind, start: usize, partitions: usize, p: KeyPoint) -> us
 {
     match kind {
         Kind::Unbounded => partitions,
-        Kind::Included => {
-            if 0 < p.at_most {
-                return p.at_most;
-            }
-            start
-        }
-        Kind::Excluded => {
-            if 0 < p.at_most {
-                return up_to_excluded(p);
-            }
-            start
-        }
+        Kind::Included | Kind::Excluded if p.at_most == 0 => start,
+        Kind::Included => p.at_most,
+        Kind::Excluded => up_to_excluded(p),
     }
 }

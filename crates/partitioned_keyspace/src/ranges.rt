@@ -7,7 +7,7 @@ ghost use Rattle.partitioned_keyspace.specs.KeyPoints.{is_point, looked_up, cove
 
 use crate::Covered;
 use crate::blocks::{IndexPoints, Reading, index_read};
-use crate::point::{end_place, key_equal, or_after, start_place};
+use crate::point::{end_place, or_after, start_place};
 use comparable_range::Kind;
 use format::BoundSpan;
 
@@ -15,14 +15,9 @@ use format::BoundSpan;
 fn is_point<'a>(ks: Kind, s: &'a [u8], ke: Kind, e: &'a [u8]) -> bool
     ensures { result ≡ is_point ks s.now ke e.now }
 {
-    match ks {
-        Kind::Unbounded => false,
-        Kind::Included => match ke {
-            Kind::Unbounded => false,
-            Kind::Included => key_equal(s, e),
-            Kind::Excluded => false,
-        },
-        Kind::Excluded => false,
+    match (ks, ke) {
+        (Kind::Included, Kind::Included) => s == e,
+        _ => false,
     }
 }
 
@@ -31,26 +26,25 @@ fn looked_up(point: bool, end: BoundSpan) -> BoundSpan
     ensures { result ≡ looked_up point end }
 {
     if point {
-        return BoundSpan {
+        BoundSpan {
             kind: Kind::Included,
-            at: end.at,
             len: 0,
-        };
+            ..end
+        }
+    } else {
+        end
     }
-    end
 }
 
 // The covering of a point, or of a range by the kinds of its bounds.
 fn covering(point: bool, ks: Kind, ke: Kind, x: IndexPoints) -> Covered
     ensures { covered_of result ≡ answer (covering_of point ks ke x) }
 {
-    let s = x.start;
-    let e = x.end;
     if point {
-        return Covered::Places(or_after(s), s.at_most);
+        return Covered::Places(or_after(x.start), x.start.at_most);
     }
-    let start = start_place(ks, s);
-    Covered::Places(start, end_place(ke, start, x.partitions, e))
+    let start = start_place(ks, x.start);
+    Covered::Places(start, end_place(ke, start, x.partitions, x.end))
 }
 
 // The covering of a range that was read, once the index is: check 4 of the range comes before check 6 of the index.

@@ -13,7 +13,7 @@ fn digit(d: u8) -> u8
     if d < 10 { b'0' + d } else { b'a' + (d - 10) }
 }
 
-// The number of digits of n.
+// The number of digits of n. By division, since std has no `ilog10`.
 pub fn decimal_len(n: u64) -> usize
     ensures { result ≡ length (decimal n) }
 {

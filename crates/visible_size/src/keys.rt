@@ -39,7 +39,8 @@ fn number_after(key: &[u8], skip: usize) -> f64
     key_fraction(&key[skip.min(key.len())..])
 }
 
-// How many bytes two keys begin with alike.
+// How many bytes two keys begin with alike. `alike` of key_rows is faster, but promises only that so many bytes agree, not that
+// no more do.
 pub fn common_prefix_len(a: &[u8], b: &[u8]) -> usize
     ensures { result ≡ common_prefix_len a.now b.now }
 {

@@ -6,13 +6,15 @@ ghost use Rattle.visible_size.specs.Numbers.{InPart, SizeFound};
 
 use crate::VisibleFraction;
 
-// The nearest whole number, a half away from zero, of a number from 0 to 2^53.
+// The nearest whole number, a half away from zero, of a number from 0 to 2^53. Twice it is exact, and so is the whole part.
+// Not `f64::round`: it is a rule of the project that f64's `round` is its own.
 fn round_away(x: f64) -> u64
     requires fact_1 { T (le zero64 x) }
     requires fact_2 { T (le x most_size) }
     ensures { result ≡ to_unsigned 64 (round_half_away x) }
 {
-    std::num::truncating_f64_to_u64(x.round())
+    let twice = std::num::truncating_f64_to_u64(x + x);
+    twice / 2 + twice % 2
 }
 
 fn fraction_number(f: VisibleFraction) -> f64

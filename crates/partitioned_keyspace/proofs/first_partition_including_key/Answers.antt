@@ -1,21 +1,8 @@
--- `partitioned_keyspace::first_partition_including_key` meets its contract: its stops are those of the index and the
--- key, and its answer is reckoned from the two numbers.
+-- `partitioned_keyspace::first_partition_including_key` meets its contract.
 -- Assumes nothing.
+use Rattle.std.proofs.Common.{rules}
 use Rattle.partitioned_keyspace.proofs.CallExits.{key_exits}
-use borrow.Author.Rules.{rules}
 use Rattle.partitioned_keyspace.proofs.first_partition_including_key.Goals as goal
-
-pub key_pointed-requires : goal.key_pointed-requires
-key_pointed-requires c = search (rules, key_exits)
-
-pub enum_known-k : goal.enum_known-k
-enum_known-k c = search (rules, key_exits)
-
-pub enum_known-p : goal.enum_known-p
-enum_known-p c = search (rules, key_exits)
-
-pub first_of-requires : goal.first_of-requires
-first_of-requires c = search (rules, key_exits)
 
 pub returns-in-Stop : goal.returns-in-Stop
 returns-in-Stop c = search (rules, key_exits)

@@ -4,8 +4,5 @@
 use Rattle.partitioned_keyspace.proofs.BlockExits.{BlocksSeen}
 use Rattle.partitioned_keyspace.proofs.blocks.blocks_read.Given as goal
 
-abbrev pub invariant-loop-left : goal.invariant-loop-left
-invariant-loop-left l = BlocksSeen l.s l.from l.n l.start l.end l.x l.before l.at l.left
-
-abbrev pub decreases-loop-left : goal.decreases-loop-left
-decreases-loop-left l = l.left
+abbrev pub invariant-loop : goal.invariant-loop
+invariant-loop l = BlocksSeen l.s l.from l.n l.start l.end l.x l.before l.at l.counter
