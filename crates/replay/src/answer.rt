@@ -1,81 +1,43 @@
-// A recorded answer, compared piece by piece with what a call answers here.
+// A recorded answer, compared piece by piece with what a call answers here. Each piece is taken off the front, and what is left of
+// the answer is handed on: `None` where the piece does not stand there.
 ghost use Rattle.std.specs.Prelude.{◌≡◌, true, ◌∷◌, []};
-
-// How far the pieces agree with an answer, or that one did not.
-#[derive(Clone, Copy)]
-pub enum Place {
-    At(usize),
-    Differs,
-}
 
 // Whether an answer is a stop and nothing more. No stop has the number 0.
 pub fn is_stop(answer: &[u8], n: u8) -> bool
     ensures { result ≡ true → answer.now ≡ n ∷ [] }
 {
-    if n == 0 {
-        return false;
-    }
-    let whole = [n];
-    check::same(answer, &whole)
+    n != 0 && answer == [n].as_slice()
 }
 
 // Whether an answer is no stop, and one byte.
 pub fn is_value(answer: &[u8], value: u8) -> bool
     ensures { (result ≡ true → answer.now ≡ 0 ∷ value ∷ []) × (answer.now ≡ 0 ∷ value ∷ [] → result ≡ true) }
 {
-    let whole = [0, value];
-    check::same(answer, &whole)
+    answer == [0, value].as_slice()
 }
 
-pub fn bytes(answer: &[u8], place: Place, piece: &[u8]) -> Place {
-    match place {
-        Place::Differs => Place::Differs,
-        Place::At(at) => {
-            if answer.len() < at {
-                return Place::Differs;
-            }
-            if answer.len() - at < piece.len() {
-                return Place::Differs;
-            }
-            let end = at + piece.len();
-            if check::same(&answer[at..end], piece) {
-                return Place::At(end);
-            }
-            Place::Differs
-        }
-    }
+// Takes off a number of 16 bits. A greater one differs.
+pub fn number(answer: &[u8], n: usize) -> Option<&[u8]> {
+    let n = u16::try_from(n).ok()?;
+    answer.strip_prefix(&n.to_be_bytes())
 }
 
-// A number of 16 bits. A greater one differs.
-pub fn number(answer: &[u8], place: Place, n: usize) -> Place {
-    if 65535 < n {
-        return Place::Differs;
-    }
-    let both = [(n / 256) as u8, (n % 256) as u8];
-    bytes(answer, place, &both)
+// Takes off a number of 64 bits.
+pub fn word(answer: &[u8], n: u64) -> Option<&[u8]> {
+    answer.strip_prefix(&n.to_be_bytes())
 }
 
-// The part of a slice that a call's answer names. One that the slice does not have differs.
-pub fn part(answer: &[u8], place: Place, s: &[u8], at: usize, len: usize) -> Place {
-    if s.len() < at {
-        return Place::Differs;
-    }
-    if s.len() - at < len {
-        return Place::Differs;
-    }
-    let end = at + len;
-    bytes(answer, place, &s[at..end])
+// Takes off the part of a slice that a call's answer names. One that the slice does not have differs.
+pub fn part<'a>(answer: &'a [u8], s: &[u8], at: usize, len: usize) -> Option<&'a [u8]> {
+    answer.strip_prefix(s.get(at..)?.get(..len)?)
 }
 
 // The same as a key of an image: its 16-bit length stands before it.
-pub fn key_image(answer: &[u8], place: Place, s: &[u8], at: usize, len: usize) -> Place {
-    part(answer, number(answer, place, len), s, at, len)
+pub fn key_image<'a>(answer: &'a [u8], s: &[u8], at: usize, len: usize) -> Option<&'a [u8]> {
+    part(number(answer, len)?, s, at, len)
 }
 
 // Whether all of an answer agreed.
-pub fn is_end(answer: &[u8], place: Place) -> bool {
-    match place {
-        Place::Differs => false,
-        Place::At(at) => at == answer.len(),
-    }
+pub fn is_end(answer: Option<&[u8]>) -> bool {
+    answer.is_some_and(|rest| rest.is_empty())
 }

@@ -13,60 +13,37 @@ const UNWRITTEN: u8 = 165;
 pub fn front(buffer: &[u8], length: usize) -> &[u8]
     ensures { result.now ≡ take length buffer.now }
 {
-    if length <= buffer.len() {
-        return &buffer[..length];
-    }
-    buffer
+    &buffer[..length.min(buffer.len())]
 }
 
 pub fn fill(out: &mut [u8]) {
-    let mut i = 0;
-    while i < out.len() {
-        out[i] = UNWRITTEN;
-        i += 1;
-    }
+    out.fill(UNWRITTEN);
 }
 
 fn is_unwritten(out: &[u8], from: usize) -> bool
     ensures { result ≡ true → Unwritten out.now from }
 {
-    let mut i = from;
-    while i < out.len() {
-        if out[i] != UNWRITTEN {
-            return false;
-        }
-        i += 1;
-    }
-    true
+    out.iter().skip(from).all(|&b| b == UNWRITTEN)
 }
 
 // Whether a buffer holds the answer at its front and is unwritten past it.
 fn buffer_is(answer: &[u8], out: &[u8], length: usize) -> bool
     ensures { result ≡ true → Holds answer.now out.now length }
 {
-    if out.len() < length {
+    let Some((&0, bytes)) = answer.split_first() else {
+        return false;
+    };
+    if out.len() < length || bytes != &out[..length] {
         return false;
     }
-    if answer.len() == 0 {
-        return false;
-    }
-    if answer[0] != 0 {
-        return false;
-    }
-    if check::same(&answer[1..], &out[..length]) {
-        return is_unwritten(out, length);
-    }
-    false
+    is_unwritten(out, length)
 }
 
 // Whether a buffer is unwritten and the answer is a stop.
 fn stop_is(answer: &[u8], out: &[u8], n: u8) -> bool
     ensures { result ≡ true → Stopped answer.now out.now n }
 {
-    if answer::is_stop(answer, n) {
-        return is_unwritten(out, 0);
-    }
-    false
+    answer::is_stop(answer, n) && is_unwritten(out, 0)
 }
 
 // Whether a call wrote what was recorded into a buffer that was filled before.

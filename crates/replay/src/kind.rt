@@ -1,8 +1,8 @@
-// The kinds of bounds as document 01 numbers them, and not as the library writes them.
+// The kinds of bounds and the sides that supply them, as document 01 numbers them, and not as the library writes them.
 ghost use Rattle.std.specs.Prelude.{◌≡◌, ◌≤◌};
 ghost use Rattle.format.specs.Range.{kind_number};
 
-use comparable_range::Kind;
+use comparable_range::{Kind, Side};
 
 pub fn number(kind: Kind) -> u8
     ensures { (result ≡ kind_number kind) × (result ≤ 2) }
@@ -14,10 +14,9 @@ pub fn number(kind: Kind) -> u8
     }
 }
 
-pub fn is_keyed(kind: Kind) -> bool {
-    match kind {
-        Kind::Unbounded => false,
-        Kind::Included => true,
-        Kind::Excluded => true,
+pub fn side_number(side: Side) -> u8 {
+    match side {
+        Side::First => 1,
+        Side::Second => 2,
     }
 }

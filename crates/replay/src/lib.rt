@@ -7,4 +7,5 @@ pub mod buffer;
 pub mod input;
 pub mod kind;
 pub mod piece;
+pub mod records;
 pub mod tally;

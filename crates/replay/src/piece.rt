@@ -1,5 +1,5 @@
 // Records with a head of 20 bytes, and the buffers that they make piece by piece.
-use crate::input;
+use crate::{buffer, input};
 
 // A record's head: a call, two numbers, and how many bytes follow.
 #[derive(Clone, Copy)]
@@ -22,47 +22,54 @@ pub fn fields_of(head: &[u8]) -> Fields {
     }
 }
 
-// What a record made of a buffer.
-#[derive(Clone, Copy)]
-pub enum Piece {
-    // The buffer holds so many bytes from here on.
-    Held(usize),
-    // The piece cannot be, or the input ended in it; so many bytes of the record are left over.
-    Ended(usize),
+// A buffer that records make piece by piece, and how many bytes it holds. A piece that cannot be, or in which the input ends, is
+// refused with how many bytes of the record are left over.
+#[derive(Drop)]
+pub struct Held<const N: usize> {
+    pub bytes: [u8; N],
+    pub length: usize,
 }
 
-// Keeps the first bytes of those held and reads others after them.
-pub fn read(buffer: &mut [u8], held: usize, kept: usize, length: usize) -> Piece {
-    if held < kept {
-        return Piece::Ended(HEAD);
+impl<const N: usize> Held<N> {
+    pub fn new() -> Held<N> {
+        Held {
+            bytes: [0; N],
+            length: 0,
+        }
     }
-    if buffer.len() < kept {
-        return Piece::Ended(HEAD);
-    }
-    if buffer.len() - kept < length {
-        return Piece::Ended(HEAD);
-    }
-    let end = kept + length;
-    let got = io::read_full(0, &mut buffer[kept..end]);
-    if got < length {
-        return Piece::Ended(HEAD + got);
-    }
-    Piece::Held(end)
-}
 
-// Extends those held by bytes that repeat the ones so far before them.
-pub fn repeat(buffer: &mut [u8], held: usize, length: usize, before: usize) -> Piece {
-    if held < before {
-        return Piece::Ended(HEAD);
+    pub fn front(&self) -> &[u8] {
+        buffer::front(&self.bytes, self.length)
     }
-    if buffer.len() < length {
-        return Piece::Ended(HEAD);
+
+    // Keeps the first bytes of those held and reads others after them.
+    pub fn read(&mut self, kept: usize, length: usize) -> Result<(), usize> {
+        if self.length < kept {
+            return Err(HEAD);
+        }
+        let Some(rest) = self.bytes.get_mut(kept..) else {
+            return Err(HEAD);
+        };
+        let Some(piece) = rest.get_mut(..length) else {
+            return Err(HEAD);
+        };
+        let got = io::read_full(0, piece);
+        if got < length {
+            return Err(HEAD + got);
+        }
+        self.length = kept + length;
+        Ok(())
     }
-    let mut i = held;
-    while i < length {
-        let b = buffer[i - before];
-        buffer[i] = b;
-        i += 1;
+
+    // Extends those held by bytes that repeat the ones so far before them.
+    pub fn repeat(&mut self, length: usize, before: usize) -> Result<(), usize> {
+        if self.length < before || N < length {
+            return Err(HEAD);
+        }
+        for i in self.length..length {
+            self.bytes[i] = self.bytes[i - before];
+        }
+        self.length = length;
+        Ok(())
     }
-    Piece::Held(length)
 }

@@ -1,29 +1,31 @@
-// Counts: of the records of each kind in the first half of a slice, of those that agree in its second half.
-ghost use Rattle.std.specs.Prelude.{◌<◌};
+// Counts of records, and of those whose answers agree. They are printed by file number, and no write's failure ends a program:
+// `println!` would retry a write that a signal interrupts, and stop at a line's first that fails.
 
-fn add_one(counts: &mut [u64], i: usize) {
-    if i < counts.len() {
-        let n = counts[i];
-        if n < u64::MAX {
-            counts[i] = n + 1;
+// How many records there were, and how many of their answers agree.
+#[derive(Clone, Copy)]
+pub struct Tally {
+    pub records: u64,
+    pub agreed: u64,
+}
+
+impl Tally {
+    pub fn new() -> Tally {
+        Tally {
+            records: 0,
+            agreed: 0,
         }
     }
-}
 
-pub fn count_of(counts: &[u64], i: usize) -> u64 {
-    if i < counts.len() {
-        return counts[i];
+    pub fn count(&mut self, agreed: bool) {
+        self.records = self.records.saturating_add(1);
+        self.agreed = self.agreed.saturating_add(u64::from(agreed));
     }
-    0
-}
 
-// Counts a record, and once more in the second half if its answer agrees.
-pub fn tally(counts: &mut [u64], i: usize, agreed: bool)
-    requires { i < 256 }
-{
-    add_one(counts, i);
-    if agreed {
-        add_one(counts, counts.len() / 2 + i);
+    pub fn print(&self, name: &[u8]) {
+        io::write_all(1, name);
+        io::write_all(1, b" ");
+        io::print_decimal(1, self.agreed);
+        print_number(b" of", self.records);
     }
 }
 
@@ -34,11 +36,37 @@ pub fn print_number(name: &[u8], n: u64) {
     io::write_all(1, b"\n");
 }
 
-pub fn print_call(name: &[u8], counts: &[u64], i: usize)
-    requires { i < 256 }
-{
-    io::write_all(1, name);
-    io::write_all(1, b" ");
-    io::print_decimal(1, count_of(counts, counts.len() / 2 + i));
-    print_number(b" of", count_of(counts, i));
+// The tallies of each call, the first for unknown ones, and of each recorded stop, 0 if none.
+#[derive(Drop)]
+pub struct Counts<const CALLS: usize> {
+    pub calls: [Tally; CALLS],
+    pub stops: [Tally; 18],
+}
+
+impl<const CALLS: usize> Counts<CALLS> {
+    pub fn new() -> Counts<CALLS> {
+        Counts {
+            calls: [Tally::new(); CALLS],
+            stops: [Tally::new(); 18],
+        }
+    }
+
+    // Calls that have no tally of their own are counted as 0, and stops from 17 on as one.
+    pub fn count(&mut self, call: u8, stop: u8, agreed: bool) {
+        let call = usize::from(call);
+        let call = if call < CALLS { call } else { 0 };
+        if let Some(tally) = self.calls.get_mut(call) {
+            tally.count(agreed);
+        }
+        self.stops[usize::from(stop.min(17))].count(agreed);
+    }
+
+    pub fn print_stops(&self, stops: &[u8]) {
+        self.stops[0].print(b"no stop");
+        for &stop in stops {
+            io::write_all(1, b"stop ");
+            io::print_decimal(1, u64::from(stop));
+            self.stops[usize::from(stop.min(17))].print(b":");
+        }
+    }
 }

@@ -27,7 +27,7 @@ fn put_front(image: &mut [u8], new: &[u8]) -> usize
     requires { length new.now ≤ length image.old }
     ensures { take result image.new ≡ new.now }
 {
-    format::put(image, 0, new);
+    image[..new.len()].copy_from_slice(new);
     new.len()
 }
 
