@@ -2,13 +2,12 @@
 -- Assumes nothing.
 use Prim.Native.Nat.{ℕ, zero, suc, ◌+◌, ◌-◌, ◌*◌, ◌^◌, ◌<◌, ◌≤◌}
 use native.Mathlib.Omega.{arith}
-use native.Mathlib.Numerals.{add-one}
-use native.Mathlib.Nat.{pow-succ', add-zero}
+use native.Mathlib.Nat.{pow-succ', zero-add, add-zero, suc-add}
 use mathlib.Core.Path.{◌≡◌, refl, sym, ◌∙◌}
 use mathlib.Core.Bool.{Bool, true, false, ◌&&◌, and_assoc}
 use mathlib.Core.List.{List, [], ◌∷◌}
 use lib.ListN.{length, get_or, take, drop, length-take, length-drop}
-use lib.Seq.{drop-cons}
+use lib.Seq.{drop-cons, drop-drop, take-nil}
 use lib.Dec.{eqb}
 use borrow.Author.Tests.{eq-eqb, ne_eqb, eqb-true}
 use Rattle.base.specs.Pick.{and_first, and_second}
@@ -50,7 +49,23 @@ pub eight_seen : (p : Key) (i : ℕ) {x : ℕ} → i + 8 ≤ length p → Revers
 eight_seen p i h r =
     rw r.value (eight_ff _ (bytes_take 8 _ (bytes_drop i p r.bytes)) (simp (length-take, length-drop) (omega arith)))
 
--- ---- words_kept and kept
+-- ---- ff16, ff32, ff64: both halves are
+all_parts : (m n : ℕ) (l : List ℕ) → all_ff (take (m + n) l) ≡ (all_ff (take m l) && all_ff (take n (drop m l)))
+unfolding all_ff
+all_parts zero n l = rw zero-add
+all_parts (suc m) n [] = rw (suc-add, take-nil)
+all_parts (suc m) n (b ∷ l) = rw (suc-add, all_parts m n l, and_assoc)
+
+module _ (p : Key) (i m n : ℕ) {t : Bool} (e : t ≡ all_ff (take m (drop i p))) where
+  pub both_halves : {u : Bool} → t ≡ true → u ≡ all_ff (take m (drop (i + m) p)) → n ≡ m + m → u ≡ all_ff (take n (drop i p))
+  both_halves h f d = f ∙ sym (rw (d, all_parts m m (drop i p), ← e, h, drop-drop))
+
+  pub first_half_lem : t ≡ false → n ≡ m + m → false ≡ all_ff (take n (drop i p))
+  first_half_lem h d = sym (rw (d, all_parts m m (drop i p), ← e, h))
+
+pub ruleset ff_exits = (eight_seen, both_halves, first_half_lem)
+
+-- ---- fewer
 all_dropped : (m : ℕ) (p : Key) (i : ℕ) → i + m ≤ length p → all_ff (take m (drop i p)) ≡ true → kept_of p i ≡ kept_of p (i + m)
 unfolding all_ff kept_of
 all_dropped zero p i h e = rw add-zero
@@ -67,16 +82,11 @@ many_dropped p m n e h k l =
     let z : n - m + m ≡ n = omega arith in
     rw z at (all_dropped m p (n - m) (omega arith) (sym e ∙ h))
 
-pub one_dropped : (p : Key) (i : ℕ) → get_or p i 0 ≡ 255 → kept_of p i ≡ kept_of p (i + 1)
+pub one_dropped : (p : Key) (n : ℕ) → (n ≡ 0 → ⊥) → get_or p (n - 1) 0 ≡ 255 → kept_of p (n - 1) ≡ kept_of p n
 unfolding kept_of
-one_dropped p i e = rw (add-one, eq-eqb _ _ e)
+one_dropped p zero h e = absurd (h refl)
+one_dropped p (suc m) h e =
+    let z : suc m - 1 ≡ m = omega arith in
+    rw (z, eq-eqb _ _ (rw z at e))
 
-pub kept_here : (p : Key) (i : ℕ) → (get_or p i 0 ≡ 255 → ⊥) → kept_of p (i + 1) ≡ i + 1
-unfolding kept_of
-kept_here p i e = rw (add-one, ne_eqb _ _ e)
-
-pub none_kept : (p : Key) (i : ℕ) {n : ℕ} → i ≤ 0 → kept_of p i ≡ n → 0 ≡ n
-unfolding kept_of
-none_kept p i h e = let z : i ≡ 0 = omega arith in rw z at e
-
-pub ruleset drop_exits = (many_dropped, one_dropped, kept_here, none_kept)
+pub ruleset drop_exits = (many_dropped, one_dropped)

@@ -12,7 +12,7 @@ use lib.Seq.{length-take-le}
 use lib.Dec.{eqb}
 use mir.Val.{Fits}
 use mir.Syntax.{w64}
-use borrow.Author.Tests.{eqb-false, leb-true}
+use borrow.Author.Tests.{ne_eqb, eqb-false, leb-true}
 use Rattle.base.specs.Pick.{pick}
 use Rattle.key.specs.Order.{Key}
 use Rattle.comparable_range.specs.Range.{Bound, unbounded, included, excluded, bound_of}
@@ -23,6 +23,23 @@ use Rattle.format.specs.Range.{write_bound}
 use Rattle.format.proofs.Layouts.{key_length}
 use Rattle.bytes_range.specs.Prefix.{kept_of, raised, next_prefix, join_end}
 use Rattle.bytes_range.specs.Writing.{kept_for, joins_within}
+
+-- ---- kept: n is 0 or one more
+pub none_left : (p : List ℕ) {n : ℕ} → n ≡ 0 → 0 ≡ kept_of p n
+unfolding kept_of
+none_left p e = rw e
+
+pub fewer_left : (p : List ℕ) (m n : ℕ) {r : ℕ} → kept_of p m ≡ kept_of p n → r ≡ kept_of p m → r ≡ kept_of p n
+fewer_left p m n e q = q ∙ e
+
+pub kept_here : (p : List ℕ) (n : ℕ) → (n ≡ 0 → ⊥) → (get_or p (n - 1) 0 ≡ 255 → ⊥) → n ≡ kept_of p n
+unfolding kept_of
+kept_here p zero h e = absurd (h refl)
+kept_here p (suc m) h e =
+    let z : suc m - 1 ≡ m = omega arith in
+    rw (ne_eqb _ _ (rw z at e))
+
+pub ruleset kept_exits = (none_left, fewer_left, kept_here)
 
 -- what the answer of `kept_for` says of an unbounded end
 pub kept_free : (p : Key) (k : Kind) {n : ℕ} → k ≡ Unbounded → n ≡ kept_for k p → n ≡ kept_of p (length p)

@@ -24,32 +24,73 @@ fn ff8(p: &[u8], i: usize) -> bool
     key::reversed(p, i) == u64::MAX
 }
 
-// A place up to which trailing FF bytes may be dropped, found eight bytes at a time.
-#[tactic(auto, using(crate::proofs::Dropped::drop_exits))]
-fn words_kept(p: &[u8]) -> usize
-    ensures upper_bound { result ≤ length p.now }
-    ensures result_value { kept_of p.now result ≡ kept_of p.now (length p.now) }
+// The same of sixteen, thirty-two and sixty-four bytes, by halves. They stay three: Rattle has no const argument that is computed.
+fn ff16(p: &[u8], i: usize) -> bool
+    requires { i + 16 ≤ length p.now }
+    ensures { result ≡ all_ff (take 16 (drop i p.now)) }
 {
-    for k in 0..p.len() / 8 {
-        let n = p.len() - k * 8;
-        if !ff8(p, n - 8) {
-            return n;
-        }
+    if ff8(p, i) {
+        return ff8(p, i + 8);
     }
-    p.len() % 8
+    false
 }
 
-// How many bytes are left once trailing FF bytes are dropped.
-#[tactic(auto, using(crate::proofs::Dropped::drop_exits))]
-fn kept(p: &[u8]) -> usize
-    ensures { result ≡ kept_of p.now (length p.now) }
+fn ff32(p: &[u8], i: usize) -> bool
+    requires { i + 32 ≤ length p.now }
+    ensures { result ≡ all_ff (take 32 (drop i p.now)) }
 {
-    for i in (0..words_kept(p)).rev() {
-        if p[i] != 255 {
-            return i + 1;
+    if ff16(p, i) {
+        return ff16(p, i + 16);
+    }
+    false
+}
+
+fn ff64(p: &[u8], i: usize) -> bool
+    requires { i + 64 ≤ length p.now }
+    ensures { result ≡ all_ff (take 64 (drop i p.now)) }
+{
+    if ff32(p, i) {
+        return ff32(p, i + 32);
+    }
+    false
+}
+
+// Of n bytes that end in FF, how many are left once the last sixty-four, eight or one are dropped, which are all FF.
+fn fewer(p: &[u8], n: usize) -> usize
+    requires fact_1 { n ≤ length p.now }
+    requires fact_2 { (n ≡ 0 → ⊥) }
+    requires fact_3 { get_or p.now (n - 1) 0 ≡ 255 }
+    ensures upper_bound { result < n }
+    ensures result_value { kept_of p.now result ≡ kept_of p.now n }
+{
+    if 64 <= n {
+        if ff64(p, n - 64) {
+            return n - 64;
         }
     }
-    0
+    if 8 <= n {
+        if ff8(p, n - 8) {
+            return n - 8;
+        }
+    }
+    n - 1
+}
+
+// How many of the first n bytes are left once trailing FF bytes are dropped.
+// By recursion on n, which falls with each FF dropped, as document 01 binds it: by many a call, since the compiler makes no loop
+// of the calls.
+fn kept(p: &[u8], n: usize) -> usize
+    requires { n ≤ length p.now }
+    ensures { result ≡ kept_of p.now n }
+{
+    if n == 0 {
+        return 0;
+    }
+    let m = n - 1;
+    if p[m] == 255 {
+        return kept(p, fewer(p, n));
+    }
+    n
 }
 
 // How many bytes of a prefix are kept for an unbounded end; none for an end with a key, which is not made of them.
@@ -59,7 +100,7 @@ fn kept_for(p: &[u8], k: Kind) -> usize
     ensures { result ≡ kept_for k p.now }
 {
     match k {
-        Kind::Unbounded => kept(p),
+        Kind::Unbounded => kept(p, p.len()),
         Kind::Included | Kind::Excluded => 0,
     }
 }

@@ -9,8 +9,8 @@ ghost use Rattle.partitioned_keyspace.specs.KeyPoints.{nothing_seen, key_span, w
 use crate::point::{KeyPoint, grown, led};
 use comparable_range::Kind;
 use format::BoundSpan;
-use std::cmp::Ordering;
 use records::BlockRead;
+use std::cmp::Ordering;
 
 #[derive(Clone, Copy)]
 pub struct IndexPoints {
@@ -30,14 +30,14 @@ pub enum Reading {
 fn still_ascends(so_far: bool, before: &[u8], first: &[u8]) -> bool
     ensures { result ≡ (so_far && key_at_most before.now first.now) }
 {
-    so_far && key::at_most(key::cmp(before, first))
+    so_far && key::cmp(before, first).is_le()
 }
 
 // Whether a first key of this order to the start is below the end, as far as the start tells.
 fn below_start(ordered: bool, o: Ordering) -> bool
     ensures { result ≡ (ordered && is_less o) }
 {
-    ordered && key::is_less(o)
+    ordered && o.is_lt()
 }
 
 // With one more block, whose first key comes after another. A first key below the start is below an end that is not below

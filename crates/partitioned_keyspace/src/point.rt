@@ -27,28 +27,28 @@ pub fn grown(p: KeyPoint, seen: usize, o: Ordering) -> KeyPoint
     ensures { result ≡ grown_by p seen o }
 {
     match o {
-        Order::Less if seen <= p.below => KeyPoint {
+        Ordering::Less if seen <= p.below => KeyPoint {
             below: seen + 1,
             at_most: seen + 1,
         },
-        Order::Less | Order::Equal => KeyPoint {
+        Ordering::Less | Ordering::Equal => KeyPoint {
             at_most: seen + 1,
             ..p
         },
-        Order::Greater => p,
+        Ordering::Greater => p,
     }
 }
 
 // The order of one more first key to a key. Once a first key was above it, no more are compared: none of them counts. Nor is
 // one compared that is known to be below it.
-pub fn led(p: KeyPoint, seen: usize, first: &[u8], key: &[u8], below: bool) -> Order
+pub fn led(p: KeyPoint, seen: usize, first: &[u8], key: &[u8], below: bool) -> Ordering
     requires { KnownBelow below first.now key.now }
     ensures { result ≡ led_order p seen first.now key.now }
 {
     if p.at_most < seen {
-        Order::Greater
+        Ordering::Greater
     } else if below {
-        Order::Less
+        Ordering::Less
     } else {
         key::cmp(first, key)
     }
