@@ -38,7 +38,7 @@ use Rattle.commit_gaps.specs.Ordered.{Behind}
 use Rattle.commit_gaps.specs.Found.{Inside, Reached, NoneFrom, PieceAt, NextFound, no_piece, a_piece}
 use Rattle.commit_gaps.specs.declared.piece.Piece.{Piece}
 use Rattle.commit_gaps.specs.declared.next.NextPiece.{NextPiece}
-use Rattle.commit_gaps.specs.declared.next.NextPiece.TheVariants.{None, At}
+use Rattle.std.specs.Prelude.{Option as Optional, None, Some}
 use Rattle.commit_gaps.proofs.Places.{all_at, pairs_at}
 use Rattle.commit_gaps.proofs.Passing.{behind_later}
 use Rattle.commit_gaps.proofs.Uses.{reached_pieces}
@@ -62,7 +62,7 @@ covered_none gs ps = refl
 next_none : {s : List ℕ} {r : Range} {m g : ℕ} → NextFound s r m g None → NoneFrom s r g
 next_none (no_piece p) = p
 
-next_piece : {s : List ℕ} {r : Range} {m g k next : ℕ} {b : RangeSpan} {q : Piece} → NextFound s r m g (At k next b q) → PieceAt s r m g k next b q
+next_piece : {s : List ℕ} {r : Range} {m g : ℕ} {n : NextPiece} → NextFound s r m g (Some n) → PieceAt s r m g n.gap n.next n.bounds n.piece
 next_piece (a_piece p) = p
 
 abbrev views_at : List ℕ → ℕ → ℕ → List View
@@ -156,12 +156,12 @@ module _ {s : List ℕ} {first n : ℕ} {job : List ℕ} {m g seen at : ℕ} (p 
         pub seen_other : not q ≡ true → ViewsSeen s first n job m g (seen + 1) v.past
         seen_other z = onward p.upto behind_here.1 (rw (output_is, not-true q z))
 
-        module _ (z : not q ≡ false) {r : RangeSpan} (w : EffectiveFound s v r) {d : ℕ} (y : Reached (bound_in s r.start) job m d) {o : NextPiece} (u : NextFound job (range_in s r.start r.end) m d o) where
+        module _ (z : not q ≡ false) {r : RangeSpan} (w : EffectiveFound s v r) {d : ℕ} (y : Reached (bound_in s r.start) job m d) {o : Optional NextPiece} (u : NextFound job (range_in s r.start r.end) m d o) where
           left_is : covered_in (job_gaps job) (view_in s v) ≡ nothing_left (pieces (drop d (job_gaps job)) (range_in s r.start r.end))
           unfolding covered_in
           left_is = rw (← w.meaning) (ap nothing_left (reached_pieces (range_in s r.start r.end) y))
 
-          pub seen_left : {k next : ℕ} {b : RangeSpan} {c : Piece} → o ≡ At k next b c → false ≡ views_covered (job_gaps job) (job_of job).parts (values_of (read_many view.read n (drop first s)))
+          pub seen_left : {a : NextPiece} → o ≡ Some a → false ≡ views_covered (job_gaps job) (job_of job).parts (values_of (read_many view.read n (drop first s)))
           seen_left a =
               let c : covered_in (job_gaps job) (view_in s v) ≡ false = left_is ∙ rw (next_piece (rw a at u)).pieces_are in
               sym (p.same ∙ ap (views_covered (job_gaps job) (job_of job).parts) next_is ∙ covered_cons (job_gaps job) (job_of job).parts (view_in s v) (drop (seen + 1) (views_at s first n)) ∙ rw (output_is, not-false q z, c))

@@ -10,7 +10,6 @@ ghost use Rattle.commit_covered.specs.Covered.{ViewsHere, views_covered};
 ghost use Rattle.commit_covered.specs.Kept.{IdsKept};
 
 use crate::ids::is_kept;
-use commit_gaps::NextPiece;
 
 // Of n views, the first of which stands at a place: nothing of one whose table is an output lies in one of the m gaps. The
 // views start in order, so the gaps that one has passed need not be looked at again.
@@ -41,8 +40,8 @@ pub fn views_covered<'a>(
         let shown = manifest::effective(image, v);
         let reached = commit_gaps::first_gap(image, shown.start, job, gaps, m, g);
         match commit_gaps::next_piece(image, shown, job, gaps, m, reached) {
-            NextPiece::At { .. } => return false,
-            NextPiece::None => g = reached,
+            Some(_) => return false,
+            None => g = reached,
         }
     }
     true

@@ -7,8 +7,7 @@ use mathlib.Core.List.{List}
 use lib.ListN.{drop}
 use Rattle.records.specs.declared.ids.ViewId.{ViewId}
 use Rattle.incremental_progress.specs.Draws.{supply, draw}
-use Rattle.incremental_progress.specs.declared.Draw.{Draw}
-use Rattle.incremental_progress.specs.declared.Draw.TheVariants.{At, UsedUp}
+use Rattle.std.specs.Prelude.{Option, None, Some}
 use Rattle.commit_ids.specs.Supply.{DrawFound}
 use Rattle.commit_entries.specs.Planned.{PlanReady, TenFound, drawn_at, none_left, none_before, drew}
 use Rattle.commit_entries.specs.declared.Plan.{Plan}
@@ -16,11 +15,11 @@ use Rattle.commit_entries.specs.declared.Ten.{Ten}
 
 -- ---- next_ten
 module _ (old : ViewId) (ids : List ℕ) (p : Plan) where
-  module _ (h : p.enough ≡ true) {d : Draw} (f : DrawFound ids (draw old (supply (drop p.drawn ids))) d) where
-    pub ten_used : d ≡ UsedUp → TenFound old ids p (record { at = 0; plan = drew p p.drawn false })
+  module _ (h : p.enough ≡ true) {d : Option ℕ} (f : DrawFound ids (draw old (supply (drop p.drawn ids))) d) where
+    pub ten_used : d ≡ None → TenFound old ids p (record { at = 0; plan = drew p p.drawn false })
     ten_used e = none_left h (sym (rw e at f.meaning))
 
-    pub ten_found : {at : ℕ} → d ≡ At at → TenFound old ids p (record { at = at; plan = drew p (at + 10) p.enough })
+    pub ten_found : {at : ℕ} → d ≡ Some at → TenFound old ids p (record { at = at; plan = drew p (at + 10) p.enough })
     ten_found {at} e = subst (λ (b : Bool). TenFound old ids p (record { at = at; plan = drew p (at + 10) b })) (sym h) (drawn_at h (sym (rw e at f.meaning)) (rw e at f.inside))
 
   pub ten_before : p.enough ≡ false → TenFound old ids p (record { at = 0; plan = drew p p.drawn false })

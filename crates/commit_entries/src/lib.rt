@@ -9,7 +9,6 @@ ghost use Rattle.commit_entries.specs.Planned.{RowSmall, KeptRow, PlanReady, Ten
 use commit_rows::{Form, Row};
 use comparable_range::Kind;
 use format::BoundSpan;
-use incremental_progress::Draw;
 use records::ViewId;
 
 // How many rows there are to write, how many bytes they take, how many of them have a new id, the place in the supply after
@@ -97,7 +96,7 @@ fn next_ten(old: ViewId, ids: &[u8], p: Plan) -> Ten
 {
     let cuts = p.cuts + 1;
     if p.enough {
-        if let Draw::At(at) = commit_ids::draw(old, ids, p.drawn) {
+        if let Some(at) = commit_ids::draw(old, ids, p.drawn) {
             return Ten {
                 at,
                 plan: Plan {

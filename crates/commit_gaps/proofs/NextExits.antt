@@ -21,7 +21,7 @@ use Rattle.commit_gaps.specs.Ordered.{Ahead, GapsOrdered}
 use Rattle.commit_gaps.specs.declared.piece.Piece.{Piece}
 use Rattle.commit_gaps.specs.declared.piece.Meeting.{Meeting}
 use Rattle.commit_gaps.specs.declared.piece.Meeting.TheVariants.{Apart, Past, Last, More}
-use Rattle.commit_gaps.specs.declared.next.NextPiece.TheVariants.{None, At}
+use Rattle.std.specs.Prelude.{None, Some}
 use Rattle.commit_gaps.specs.Found.{Shared, MeetingIs, nothing, ended, ends, goes_on, Reached, NextFound, no_piece, a_piece}
 use Rattle.commit_gaps.proofs.Places.{take_more, pairs_at}
 use Rattle.commit_gaps.proofs.Passing.{all_clear, none_met, past_none, past_clear, ended_clear}
@@ -100,11 +100,11 @@ module _ {s : List ℕ} {r : Range} {m from g : ℕ} (p : Seeking s r m from g) 
           none_met = p.same_met ∙ n.1 ∙ none_met r (g + 1) (drop (g + 1) (job_gaps s)) c;
         })
 
-    pub sought_more : {q : Piece} → o ≡ More q → NextFound s r m from (At g (g + 1) b q)
+    pub sought_more : {q : Piece} → o ≡ More q → NextFound s r m from (Some (record { gap = g; next = g + 1; bounds = b; piece = q }))
     sought_more e =
         let y = met_more (rw e at w) in
         let n = some_here g r f.is y.lies in
-        a_piece {next = g + 1} (record {
+        a_piece (record {
           from = p.begun;
           onward = omega arith;
           upto = omega arith;
@@ -115,7 +115,7 @@ module _ {s : List ℕ} {r : Range} {m from g : ℕ} (p : Seeking s r m from g) 
           gaps_are = p.same_met ∙ n.1;
         })
 
-    pub sought_last : {t : List ℕ} {q : Piece} → StartsHeld r → GapsOrdered s → GapsHold s m t → o ≡ Last q → NextFound s r m from (At g m b q)
+    pub sought_last : {t : List ℕ} {q : Piece} → StartsHeld r → GapsOrdered s → GapsHold s m t → o ≡ Last q → NextFound s r m from (Some (record { gap = g; next = m; bounds = b; piece = q }))
     sought_last k q v e =
         let l = met_last (rw e at w) in
         let y = l.0 in

@@ -16,7 +16,7 @@ use Rattle.commit_gaps.specs.declared.piece.Piece.TheVariants.{Whole, Cut}
 use Rattle.commit_gaps.specs.declared.piece.Meeting.{Meeting}
 use Rattle.commit_gaps.specs.declared.piece.Meeting.TheVariants.{Apart, Past, Last, More}
 use Rattle.commit_gaps.specs.declared.next.NextPiece.{NextPiece}
-use Rattle.commit_gaps.specs.declared.next.NextPiece.TheVariants.{None, At}
+use Rattle.std.specs.Prelude.{Option as Optional, None, Some}
 
 pub record Inside (s : List ℕ) (r : RangeSpan) : Type 0 where
   pub start : BoundInside s r.start
@@ -68,6 +68,6 @@ pub record PieceAt (s : List ℕ) (r : Range) (m g k next : ℕ) (bounds : Range
   pub pieces_are : pieces (drop g (job_gaps s)) r ≡ piece ∷ pieces (drop next (job_gaps s)) r
   pub gaps_are : gaps_met g (drop g (job_gaps s)) r ≡ k ∷ gaps_met next (drop next (job_gaps s)) r
 
-pub data NextFound (s : List ℕ) (r : Range) (m g : ℕ) : NextPiece → Type 0 where
+pub data NextFound (s : List ℕ) (r : Range) (m g : ℕ) : Optional NextPiece → Type 0 where
   no_piece : NoneFrom s r g → NextFound s r m g None
-  a_piece : {k next : ℕ} {bounds : RangeSpan} {p : Piece} → PieceAt s r m g k next bounds p → NextFound s r m g (At k next bounds p)
+  a_piece : {n : NextPiece} → PieceAt s r m g n.gap n.next n.bounds n.piece → NextFound s r m g (Some n)

@@ -34,19 +34,17 @@ pub fn first_gap(
     m
 }
 
-// The next piece from a gap on: the number of its gap and the gap's bounds, and the gap from which to go on, which is m if
-// the range has ended.
+// A piece of a range: the number of its gap and the gap's bounds, and the gap from which to go on, which is m if the range
+// has ended.
 #[derive(Clone, Copy)]
-pub enum NextPiece {
-    None,
-    At {
-        gap: usize,
-        next: usize,
-        bounds: RangeSpan,
-        piece: Piece,
-    },
+pub struct NextPiece {
+    pub gap: usize,
+    pub next: usize,
+    pub bounds: RangeSpan,
+    pub piece: Piece,
 }
 
+// The next piece from a gap on, if there is one.
 pub fn next_piece<'a>(
     image: &'a [u8],
     range: RangeSpan,
@@ -54,7 +52,7 @@ pub fn next_piece<'a>(
     gaps: &[usize],
     m: usize,
     from: usize,
-) -> NextPiece
+) -> Option<NextPiece>
     requires fact_1 { Inside image.now range }
     requires fact_2 { StartsHeld (range_in image.now range.start range.end) }
     requires fact_3 { GapsHold job.now m gaps.now }
@@ -66,24 +64,24 @@ pub fn next_piece<'a>(
         let bounds = commit_durable::gap_at(job, gaps, m, g);
         match meet(image, range, job, bounds) {
             Meeting::Apart => {}
-            Meeting::Past => return NextPiece::None,
+            Meeting::Past => return None,
             Meeting::Last(piece) => {
-                return NextPiece::At {
+                return Some(NextPiece {
                     gap: g,
                     next: m,
                     bounds,
                     piece,
-                };
+                });
             }
             Meeting::More(piece) => {
-                return NextPiece::At {
+                return Some(NextPiece {
                     gap: g,
                     next: g + 1,
                     bounds,
                     piece,
-                };
+                });
             }
         }
     }
-    NextPiece::None
+    None
 }

@@ -16,7 +16,7 @@ use Rattle.std.specs.declared.cmp.Ordering.TheVariants.{Less, Equal, Greater}
 use Rattle.key.proofs.Linear.{key_order_is_total, key_self, same_front}
 use Rattle.records.specs.declared.ids.ViewId.{ViewId}
 use Rattle.incremental_progress.specs.Draws.{Ten, tens, supply, got, is_old, draw}
-use Rattle.incremental_progress.specs.declared.Draw.TheVariants.{At, UsedUp}
+use Rattle.std.specs.Prelude.{None, Some}
 use Rattle.commit_ids.specs.Supply.{DrawFound}
 
 -- ---- the supply
@@ -65,7 +65,7 @@ pub record Drawing (old : ViewId) (ids : List ℕ) (from at : ℕ) : Type 0 wher
   pub rest : draw old (supply (drop from ids)) ≡ draw old (supply (drop at ids))
 
 module _ {old : ViewId} {ids : List ℕ} {from at : ℕ} (p : Drawing old ids from at) where
-  pub drawing_used : length ids - at < 10 → DrawFound ids (draw old (supply (drop from ids))) UsedUp
+  pub drawing_used : length ids - at < 10 → DrawFound ids (draw old (supply (drop from ids))) None
   unfolding draw
   drawing_used h = record { meaning = sym (p.rest ∙ rw (no_ten (drop at ids) (rw length-drop h))); inside = tt }
 
@@ -89,5 +89,5 @@ module _ {old : ViewId} {ids : List ℕ} {from at : ℕ} (p : Drawing old ids fr
       pub drawing_again : t ≡ false → {to : ℕ} → to ≡ at + 10 → Drawing old ids from to
       drawing_again e z = rw z (record { full = p.full; within = omega arith; rest = here ∙ rw (on (is_old old (take 10 (drop at ids))) (old_is ∙ e)) })
 
-      pub drawing_found : t ≡ true → DrawFound ids (draw old (supply (drop from ids))) (At at)
+      pub drawing_found : t ≡ true → DrawFound ids (draw old (supply (drop from ids))) (Some at)
       drawing_found e = record { meaning = sym (here ∙ rw (off (is_old old (take 10 (drop at ids))) (old_is ∙ e))); inside = omega arith }

@@ -7,7 +7,6 @@ ghost use Rattle.incremental_progress.specs.Ids.{publishing_id};
 ghost use Rattle.incremental_progress.specs.Draws.{supply, draw};
 ghost use Rattle.commit_ids.specs.Supply.{DrawFound};
 
-use incremental_progress::Draw;
 use records::{TableId, ViewId};
 
 // The id of a view, at a place.
@@ -34,15 +33,15 @@ pub fn published_id(s: &[u8], at: usize) -> ViewId
 }
 
 // The next ten bytes from a place of the supply on that, with the time of the old id, make another id than the old one.
-pub fn draw(old: ViewId, ids: &[u8], from: usize) -> Draw
+pub fn draw(old: ViewId, ids: &[u8], from: usize) -> Option<usize>
     requires { from ≤ length ids.now }
     ensures { DrawFound ids.now (draw old (supply (drop from ids.now))) result }
 {
     for i in 0..(ids.len() - from) / 10 {
         let at = from + 10 * i;
         if ids[at..at + 10] != old.0[6..] {
-            return Draw::At(at);
+            return Some(at);
         }
     }
-    Draw::UsedUp
+    None
 }

@@ -19,7 +19,7 @@ use Rattle.commit_gaps.specs.Ordered.{GapsOrdered}
 use Rattle.commit_gaps.specs.Found.{Inside, Reached, NoneFrom, PieceAt, NextFound, no_piece, a_piece}
 use Rattle.commit_gaps.specs.declared.piece.Piece.{Piece}
 use Rattle.commit_gaps.specs.declared.next.NextPiece.{NextPiece}
-use Rattle.commit_gaps.specs.declared.next.NextPiece.TheVariants.{None, At}
+use Rattle.std.specs.Prelude.{Option as Optional, None, Some}
 use Rattle.commit_gaps.proofs.Uses.{reached_pieces, reached_met}
 use Rattle.commit_entries.specs.Planned.{PlanReady, PlannedMore}
 use Rattle.commit_entries.specs.declared.Plan.{Plan}
@@ -32,9 +32,9 @@ abbrev shown : List ℕ → ViewHeld → Range
 shown image h = effective (view_at image h.at)
 
 the_piece :
-    {s : List ℕ} {r : Range} {m g k next : ℕ} {bounds : RangeSpan} {piece : Piece}
-    → NextFound s r m g (At k next bounds piece)
-    → PieceAt s r m g k next bounds piece
+    {s : List ℕ} {r : Range} {m g : ℕ} {n : NextPiece}
+    → NextFound s r m g (Some n)
+    → PieceAt s r m g n.gap n.next n.bounds n.piece
 the_piece (a_piece w) = w
 
 nothing_there : {s : List ℕ} {r : Range} {m g : ℕ} → NextFound s r m g None → NoneFrom s r g
@@ -97,37 +97,37 @@ module _ {image job ids gap_table : List ℕ} {m : ℕ} {h : ViewHeld} {p : Plan
       let b : gaps_met 0 (job_gaps job) (shown image h) ≡ x.met = x.gaps_are ∙ rw f (append-nil x.met) in
       rw (a, b) x.planned
 
-  module _ {r : NextPiece} (f : NextFound job (range_in image h.range.start h.range.end) m g r) where
+  module _ {r : Optional NextPiece} (f : NextFound job (range_in image h.range.start h.range.end) m g r) where
     found : NextFound job (shown image h) m g r
     found = subst (λ (s : Range). NextFound job s m g r) x.view.held.range_is f
 
     pub view_none : r ≡ None → PlannedMore image job ids (gap_entries (job_gaps job) (view_at image h.at)) (map gap_bucket (gaps_met 0 (job_gaps job) (effective (view_at image h.at)))) p d q t
     view_none e = let w = nothing_there (rw e at found) in ended w.none_left w.none_met
 
-    module _ {k next : ℕ} {bounds : RangeSpan} {piece : Piece} (e : r ≡ At k next bounds piece) where
-      at : PieceAt job (shown image h) m g k next bounds piece
+    module _ {c : NextPiece} (e : r ≡ Some c) where
+      at : PieceAt job (shown image h) m g c.gap c.next c.bounds c.piece
       at = the_piece (rw e at found)
 
-      pub view_gap : k ≤ 65
+      pub view_gap : c.gap ≤ 65
       view_gap = omega (arith, at.onward, at.upto, x.hold.most)
 
-      pub view_bounds : RangeSmall bounds
+      pub view_bounds : RangeSmall c.bounds
       view_bounds = record { start = omega (arith, x.small, at.inside.start); end = omega (arith, x.small, at.inside.end) }
 
-      pub view_less : m - next < m - g
+      pub view_less : m - c.next < m - g
       view_less = omega (arith, at.from, at.onward, at.upto)
 
-      pub view_next : next ≤ m
+      pub view_next : c.next ≤ m
       view_next = at.upto
 
-      module _ {s : Plan} {u : List ℕ} (w : PlannedPiece image ids h k bounds piece q t s u) where
-        one : PlannedMore image job ids (piece_entry (view_at image h.at) at.piece ∷ []) (gap_bucket k ∷ []) q t s u
+      module _ {s : Plan} {u : List ℕ} (w : PlannedPiece image ids h c.gap c.bounds c.piece q t s u) where
+        one : PlannedMore image job ids (piece_entry (view_at image h.at) at.piece ∷ []) (gap_bucket c.gap ∷ []) q t s u
         one = w job at.piece at.inside at.is
 
         pub view_more_same : length u ≡ length d
         view_more_same = one.same ∙ x.planned.same
 
-        pub view_onward : ViewSeen image job ids gap_table m h p d next s u
+        pub view_onward : ViewSeen image job ids gap_table m h p d c.next s u
         view_onward =
             let z = one.ready (549755813888 + length x.done) x.ready in
             let n : length (x.done ++ (at.piece ∷ [])) ≡ length x.done + 1 = length-append x.done (at.piece ∷ []) in
@@ -138,10 +138,10 @@ module _ {image job ids gap_table : List ℕ} {m : ℕ} {h : ViewHeld} {p : Plan
               ordered = x.ordered;
               upto = at.upto;
               done = x.done ++ (at.piece ∷ []);
-              met = x.met ++ (k ∷ []);
-              pieces_are = x.pieces_are ∙ rw at.pieces_are (sym (append_assoc x.done (at.piece ∷ []) (pieces (drop next (job_gaps job)) (shown image h))));
-              gaps_are = x.gaps_are ∙ rw at.gaps_are (sym (append_assoc x.met (k ∷ []) (gaps_met next (drop next (job_gaps job)) (shown image h))));
-              planned = rw (map_append (piece_entry (view_at image h.at)) x.done (at.piece ∷ []), map_append gap_bucket x.met (k ∷ [])) (planned_then image job ids x.planned one);
+              met = x.met ++ (c.gap ∷ []);
+              pieces_are = x.pieces_are ∙ rw at.pieces_are (sym (append_assoc x.done (at.piece ∷ []) (pieces (drop c.next (job_gaps job)) (shown image h))));
+              gaps_are = x.gaps_are ∙ rw at.gaps_are (sym (append_assoc x.met (c.gap ∷ []) (gaps_met c.next (drop c.next (job_gaps job)) (shown image h))));
+              planned = rw (map_append (piece_entry (view_at image h.at)) x.done (at.piece ∷ []), map_append gap_bucket x.met (c.gap ∷ [])) (planned_then image job ids x.planned one);
               few = omega (arith, n, x.few, at.from, at.onward);
               ready = ready_most z (omega (arith, n, z.few));
             }

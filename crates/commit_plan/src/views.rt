@@ -11,7 +11,7 @@ ghost use Rattle.commit_plan.specs.Views.{RangeSmall, whole_row, cut_row, Planne
 
 use crate::held::ViewHeld;
 use commit_entries::{Plan, add_cut, add_row};
-use commit_gaps::{NextPiece, Piece};
+use commit_gaps::Piece;
 use commit_rows::{Form, Row};
 use comparable_range::{Kind, Side};
 use format::span::RangeSpan;
@@ -101,15 +101,9 @@ pub fn plan_view<'a>(
 {
     let mut g = h.gap;
     let mut plan = p;
-    while let NextPiece::At {
-        gap,
-        next,
-        bounds,
-        piece,
-    } = commit_gaps::next_piece(image, h.range, job, gaps, m, g)
-    {
-        plan = plan_piece(image, ids, rows, h, gap, bounds, piece, plan);
-        g = next;
+    while let Some(n) = commit_gaps::next_piece(image, h.range, job, gaps, m, g) {
+        plan = plan_piece(image, ids, rows, h, n.gap, n.bounds, n.piece, plan);
+        g = n.next;
     }
     plan
 }

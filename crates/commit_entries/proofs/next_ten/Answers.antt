@@ -4,8 +4,8 @@ use Rattle.commit_entries.proofs.RowExits.{ten_exits}
 use borrow.Author.Rules.{rules}
 use Rattle.commit_entries.proofs.next_ten.Goals as goal
 
-pub returns-in-At : goal.returns-in-At
-returns-in-At c = search (rules, ten_exits)
+pub returns-in-Some : goal.returns-in-At
+returns-in-Some c = search (rules, ten_exits)
 
 pub returns-in_default : goal.returns-in_default
 returns-in_default c = search (rules, ten_exits)

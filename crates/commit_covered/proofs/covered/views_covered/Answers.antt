@@ -16,8 +16,8 @@ first_gap-reached-requires-clause-fact_4 c = search (rules, view_exits)
 pub next_piece-requires-clause-fact_2 : goal.next_piece-requires-clause-fact_2
 next_piece-requires-clause-fact_2 c = search (rules, view_exits)
 
-pub returns-in-At : goal.returns-in-At
-returns-in-At c = search (rules, view_exits)
+pub returns-in-Some : goal.returns-in-Some
+returns-in-Some c = search (rules, view_exits)
 
 pub loop-preserved : goal.loop-preserved
 loop-preserved c = search (rules, view_exits)
