@@ -35,7 +35,7 @@ module _ (s : List ℕ) (b k : BoundSpan) {t : Bool} (et : t ≡ is_keyed b.kind
   no_key e = rw (← key_by b.kind (take b.len (drop b.at s)) (take k.len (drop k.at s)), ← et, e)
 
   pub key_is :
-      {x y : Key} {o : Order} {u : Bool}
+      {x y : Key} {o : Ordering} {u : Bool}
       → t ≡ true
       → x ≡ take b.len (drop b.at s)
       → y ≡ take k.len (drop k.at s)

@@ -63,7 +63,7 @@ ends_by_lem true k e = sym (and-true (cut_at_most (after k) e))
 ends_by_lem false k e = sym (and-false (cut_at_most above e))
 
 module _ (s : List ℕ) (i j : BoundSpan) (t : TableSpan) where
-  module _ {f : BoundSpan} {o : Order} {a : Bool} (d : f ≡ first_span t) (g : o ≡ cmp_bound true (bound_in s i) (bound_in s f)) (h : a ≡ at_most o) where
+  module _ {f : BoundSpan} {o : Ordering} {a : Bool} (d : f ≡ first_span t) (g : o ≡ cmp_bound true (bound_in s i) (bound_in s f)) (h : a ≡ at_most o) where
     begins : cut_at_most (start_cut (bound_in s i)) (before (table_in s t).first) ≡ a
     begins =
         sym (h ∙ ap at_most g ∙ starts_by_cuts (bound_in s i) (bound_in s f) ∙ ap (λ m. cut_at_most (start_cut (bound_in s i)) (start_cut (bound_in s m))) d)
@@ -72,7 +72,7 @@ module _ (s : List ℕ) (i j : BoundSpan) (t : TableSpan) where
     unfolding output_between
     begins_before e = rw (begins, e)
 
-    module _ {l : BoundSpan} {u : Order} {b : Bool} (q : l ≡ last_span t) (w : u ≡ cmp_bound false (bound_in s l) (bound_in s j)) (k : b ≡ at_most u) (e : a ≡ true) where
+    module _ {l : BoundSpan} {u : Ordering} {b : Bool} (q : l ≡ last_span t) (w : u ≡ cmp_bound false (bound_in s l) (bound_in s j)) (k : b ≡ at_most u) (e : a ≡ true) where
       between : output_between (end_cut (bound_in s j)) (start_cut (bound_in s i)) (table_in s t) ≡ (b && t.flagged)
       unfolding output_between
       between =

@@ -127,7 +127,7 @@ module _ (r g : Range) {a : Side} (p : StartsWithin r g a) where
 pub ruleset within_exits = (within_whole, within_through, within_behind)
 
 -- ---- which of the two it is
-module _ (r g : Range) {o : Order} (e : o ≡ cmp_bound true r.start g.start) where
+module _ (r g : Range) {o : Ordering} (e : o ≡ cmp_bound true r.start g.start) where
   pub starts_alike : o ≡ Equal → non_empty r ≡ true → StartsWithin r g Second
   unfolding start_side
   starts_alike f n = record { passes = n; later = rw (← e, f); is = rw (← e, f) }

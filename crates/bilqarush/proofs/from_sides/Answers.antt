@@ -13,11 +13,11 @@ enum_known-sides c = search (rules, joined_exits)
 pub bound_of-requires : goal.bound_of-requires
 bound_of-requires c = search (rules, joined_exits)
 
-pub bound_of-requires-in-From : goal.bound_of-requires-in-From
-bound_of-requires-in-From c = search (rules, joined_exits)
+pub bound_of-requires-in-Some : goal.bound_of-requires-in-Some
+bound_of-requires-in-Some c = search (rules, joined_exits)
 
-pub returns-in-Nothing : goal.returns-in-Nothing
-returns-in-Nothing c = search (rules, joined_exits)
+pub returns-in-None : goal.returns-in-None
+returns-in-None c = search (rules, joined_exits)
 
-pub returns-in-From : goal.returns-in-From
-returns-in-From c = search (rules, joined_exits)
+pub returns-in-Some : goal.returns-in-Some
+returns-in-Some c = search (rules, joined_exits)

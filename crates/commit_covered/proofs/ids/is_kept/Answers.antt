@@ -16,8 +16,8 @@ offset_bounds-chain-row c = search (rules, kept_exits)
 pub bounds-chain-row : goal.bounds-chain-row
 bounds-chain-row c = search (rules, kept_exits)
 
-pub returns-then-is_equal : goal.returns-then-is_equal
-returns-then-is_equal c = search (rules, kept_exits)
+pub returns-then-is_eq : goal.returns-then-is_eq
+returns-then-is_eq c = search (rules, kept_exits)
 
 pub overflow_add-left : goal.overflow_add-left
 overflow_add-left c = search (rules, kept_exits)

@@ -4,8 +4,8 @@ use Rattle.std.proofs.Common.{rules}
 use Rattle.visible_size.proofs.RangeExits.{same_exits}
 use Rattle.visible_size.proofs.fraction.same_range.Goals as goal
 
-pub returns-then-is_equal : goal.returns-then-is_equal
-returns-then-is_equal c = search (rules, same_exits)
+pub returns-then-is_eq : goal.returns-then-is_eq
+returns-then-is_eq c = search (rules, same_exits)
 
-pub returns-else-is_equal : goal.returns-else-is_equal
-returns-else-is_equal c = search (rules, same_exits)
+pub returns-else-is_eq : goal.returns-else-is_eq
+returns-else-is_eq c = search (rules, same_exits)
