@@ -18,7 +18,8 @@ pub fn view_id_at(s: &[u8], at: usize) -> ViewId
     ViewId(<[u8; 16]>::try_from(&s[at..at + 16]).unwrap())
 }
 
-// The id of the view that publishes a table: the one place where an id of one kind becomes one of the other.
+// The id of the view that publishes a table: the one place where an id of one kind becomes one of the other. No `From`, which
+// every crate could call: ids of the two kinds are never taken for each other (docs/PAPER.md).
 fn publishing_id(id: TableId) -> ViewId
     ensures { result ≡ publishing_id id }
 {
