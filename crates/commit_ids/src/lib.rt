@@ -1,8 +1,7 @@
 // View ids: the one that a view has, the one that publishes a table, and new ones from the lent supply.
 #![tactic(auto)]
 
-ghost use Rattle.std.specs.Prelude.{◌≡◌, not, ◌≤◌, ◌+◌, length, take, drop};
-ghost use Rattle.key.specs.Order.{cmp_key, is_equal};
+ghost use Rattle.std.specs.Prelude.{◌≡◌, ◌≤◌, ◌+◌, length, take, drop};
 ghost use Rattle.incremental_progress.specs.Ids.{publishing_id};
 ghost use Rattle.incremental_progress.specs.Draws.{supply, draw};
 ghost use Rattle.commit_ids.specs.Supply.{DrawFound};
