@@ -213,9 +213,6 @@ module _ (image job ids : List ℕ) where
     cut_ready (none_left h f) a n z = rw a.is (record { few = omega (arith, z.few); few_cuts = omega (arith, z.few_cuts); short = omega (arith, z.short, a.most); within = z.within })
     cut_ready (none_before h) a n z = rw a.is (record { few = omega (arith, z.few); few_cuts = omega (arith, z.few_cuts); short = omega (arith, z.short, a.most); within = z.within })
 
-    cut_same : {y : tens.Ten} → TenFound v.id ids p y → Added (with_ten r y.at) y.plan d q t → length t ≡ length d
-    cut_same f a = a.kept.same
-
     pub planned_cut : AddedCut v.id ids r p d q t → PlannedMore image job ids (cut v g ∷ []) (b ∷ []) p d q t
     planned_cut a = record { more = λ es bs x. cut_more es bs x a.found a.added; ready = cut_ready a.found a.added; same = a.added.kept.same }
 

@@ -1,8 +1,7 @@
 // View ids: the one that a view has, the one that publishes a table, and new ones from the lent supply.
 #![tactic(auto)]
 
-ghost use Rattle.std.specs.Prelude.{◌≡◌, not, ◌≤◌, ◌+◌, length, take, drop};
-ghost use Rattle.key.specs.Order.{cmp_key, is_equal};
+ghost use Rattle.std.specs.Prelude.{◌≡◌, ◌≤◌, ◌+◌, length, take, drop};
 ghost use Rattle.incremental_progress.specs.Ids.{publishing_id};
 ghost use Rattle.incremental_progress.specs.Draws.{supply, draw};
 ghost use Rattle.commit_ids.specs.Supply.{DrawFound};
@@ -17,7 +16,8 @@ pub fn view_id_at(s: &[u8], at: usize) -> ViewId
     ViewId(<[u8; 16]>::try_from(&s[at..at + 16]).unwrap())
 }
 
-// The id of the view that publishes a table: the one place where an id of one kind becomes one of the other.
+// The id of the view that publishes a table: the one place where an id of one kind becomes one of the other. No `From`, which
+// every crate could call: ids of the two kinds are never taken for each other (docs/PAPER.md).
 fn publishing_id(id: TableId) -> ViewId
     ensures { result ≡ publishing_id id }
 {

@@ -2,18 +2,19 @@
 -- Assumes nothing.
 use Prim.Native.Nat.{ℕ, ◌+◌, ◌*◌, ◌≤◌}
 use native.Mathlib.Omega.{arith}
-use mathlib.Core.Path.{◌≡◌, refl, ap}
+use mathlib.Core.Path.{◌≡◌, refl, ap, ◌∙◌}
 use mathlib.Core.Bool.{Bool, true, false}
-use mathlib.Core.List.{List}
-use lib.ListN.{length, get_or}
+use mathlib.Core.List.{List, [], ◌∷◌, ◌++◌}
+use lib.ListN.{length, get_or, set}
 use lib.Dec.{eqb}
 use Rattle.base.specs.Rows.{row_at, row_number}
+use Rattle.base.specs.Splice.{splice, spliced_length, splice_splice, set_is_splice}
 use Rattle.comparable_range.specs.declared.Kind.{Kind}
 use Rattle.comparable_range.specs.declared.Kind.TheVariants.{Unbounded, Included, Excluded}
 use Rattle.comparable_range.specs.declared.Side.TheVariants.{First, Second}
 use Rattle.format.specs.Range.{kind_of, kind_number}
 use Rattle.format.specs.declared.range.BoundSpan.{BoundSpan}
-use Rattle.commit_rows.specs.Numbers.{span_at, gap_of, gap_numbers, bit_of, part_of, part_numbers, form_of, form_number, row_of, row_numbers, run_kind_of, run_kind_number, run_of, run_numbers}
+use Rattle.commit_rows.specs.Numbers.{span_at, bound_numbers, gap_of, gap_numbers, bit_of, part_of, part_numbers, form_of, form_number, row_of, row_numbers, run_kind_of, run_kind_number, run_of, run_numbers}
 use Rattle.commit_rows.specs.declared.parts.PartSpan.{PartSpan}
 use Rattle.commit_rows.specs.declared.rows.Form.{Form}
 use Rattle.commit_rows.specs.declared.rows.Form.TheVariants.{Whole, Output, CutOutput, Cut}
@@ -81,6 +82,27 @@ module _ (t : List ℕ) (k : ℕ) (h : k * 11 + 11 ≤ length t) where
         span_of_row 11 k 4 (k * 11 + 4) t (omega arith) refl,
         span_of_row 11 k 7 (k * 11 + 7) t (omega arith) refl,
       )
+
+-- four numbers, two bounds and one number, one after the other
+pub row_put :
+    (t : List ℕ) (k : ℕ) (r : Row) {n : ℕ} {u v w : List ℕ}
+    → k * 11 + 11 ≤ length t
+    → n ≡ form_number r.form
+    → u ≡ splice t (k * 11) (n ∷ r.bucket ∷ r.at ∷ r.past ∷ [])
+    → v ≡ splice u (k * 11 + 4) (bound_numbers r.start)
+    → w ≡ splice v (k * 11 + 7) (bound_numbers r.end)
+    → set w (k * 11 + 10) r.ten ≡ splice t (k * 11) (row_numbers r)
+row_put t k r {n} {u} {v} {w} h x e f g =
+    let front = n ∷ r.bucket ∷ r.at ∷ r.past ∷ [] in
+    let two : v ≡ splice t (k * 11) (front ++ bound_numbers r.start) = f ∙ rw e (splice_splice t (k * 11) front (bound_numbers r.start) (k * 11 + 4) refl (omega arith)) in
+    let three : w ≡ splice t (k * 11) (front ++ bound_numbers r.start ++ bound_numbers r.end)
+    = g ∙ rw two (splice_splice t (k * 11) (front ++ bound_numbers r.start) (bound_numbers r.end) (k * 11 + 7) refl (omega arith)) in
+    let l : length w ≡ length t = spliced_length t (k * 11) (front ++ bound_numbers r.start ++ bound_numbers r.end) three (omega arith) in
+    let all : set w (k * 11 + 10) r.ten ≡ splice t (k * 11) (front ++ bound_numbers r.start ++ bound_numbers r.end ++ (r.ten ∷ []))
+    = set_is_splice w (k * 11 + 10) r.ten (omega arith)
+    ∙ ap (λ (l : List ℕ). splice l (k * 11 + 10) (r.ten ∷ [])) three
+    ∙ splice_splice t (k * 11) (front ++ bound_numbers r.start ++ bound_numbers r.end) (r.ten ∷ []) (k * 11 + 10) refl (omega arith) in
+    rw (← x) all
 
 -- ---- what was written is read again
 kind_back : (k : Kind) → kind_of (kind_number k) ≡ k

@@ -4,7 +4,7 @@ ghost use Rattle.base.specs.Rows.{row_at};
 ghost use Rattle.base.specs.Splice.{splice};
 ghost use Rattle.commit_rows.specs.Numbers.{gap_of, gap_numbers};
 
-use crate::bounds::{bound_at, kind_number};
+use crate::bounds::{bound_at, put_bound};
 use format::BoundSpan;
 use format::span::RangeSpan;
 
@@ -24,12 +24,6 @@ pub fn put_gap(gaps: &mut [usize], g: usize, start: BoundSpan, end: BoundSpan)
     ensures { gaps.new ≡ splice gaps.old (g * 6) (gap_numbers start end) }
 {
     let at = g * 6;
-    gaps[at..at + 6].copy_from_slice(&[
-        kind_number(start.kind),
-        start.at,
-        start.len,
-        kind_number(end.kind),
-        end.at,
-        end.len,
-    ]);
+    put_bound(gaps, at, start);
+    put_bound(gaps, at + 3, end);
 }

@@ -4,7 +4,7 @@ ghost use Rattle.base.specs.Rows.{row_at};
 ghost use Rattle.base.specs.Splice.{splice};
 ghost use Rattle.commit_rows.specs.Numbers.{form_of, form_number, row_of, row_numbers};
 
-use crate::bounds::{bound_at, kind_number};
+use crate::bounds::{bound_at, put_bound, put_four};
 use comparable_range::Side;
 use format::BoundSpan;
 
@@ -80,17 +80,9 @@ pub fn put_row(rows: &mut [usize], k: usize, r: Row)
     ensures { rows.new ≡ splice rows.old (k * 11) (row_numbers r) }
 {
     let at = k * 11;
-    rows[at..at + 11].copy_from_slice(&[
-        form_number(r.form),
-        r.bucket,
-        r.at,
-        r.past,
-        kind_number(r.start.kind),
-        r.start.at,
-        r.start.len,
-        kind_number(r.end.kind),
-        r.end.at,
-        r.end.len,
-        r.ten,
-    ]);
+    // Eleven numbers copied at once take twice the time: they go through memory.
+    put_four(rows, at, [form_number(r.form), r.bucket, r.at, r.past]);
+    put_bound(rows, at + 4, r.start);
+    put_bound(rows, at + 7, r.end);
+    rows[at + 10] = r.ten;
 }
