@@ -135,8 +135,8 @@ fn put_line(s: &[u8], v: ViewSpan, id: u64, place: usize, out: &mut [u8], at: us
     put_bounds(s, e.start, e.end, out, a)
 }
 
-// The lines of n views of a run. The same walk as `views_len`, which adds where this writes: one walk for both would need a
-// trait with two contracts, and is no plainer.
+// The lines of n views of a run. The walk of `views_len`, which adds where this writes: one for both would need a trait with two
+// contracts, and is no plainer.
 fn put_views(s: &[u8], from: usize, n: usize, id: u64, out: &mut [u8], first: usize) -> Reached
     requires from_in_bounds_1 { from ≤ length s.now }
     requires from_in_bounds_2 { T (is_got (read_many view.read n (drop from s.now))) }
@@ -154,7 +154,7 @@ fn put_views(s: &[u8], from: usize, n: usize, id: u64, out: &mut [u8], first: us
     Reached { next: at, to }
 }
 
-// The lines of n runs, the same walk as `runs_len`: two for the same reason.
+// The lines of n runs. The walk of `runs_len`: two for the same reason.
 fn put_runs(s: &[u8], from: usize, n: usize, out: &mut [u8], first: usize)
     requires from_in_bounds_1 { from ≤ length s.now }
     requires from_in_bounds_2 { T (is_got (read_many run.read n (drop from s.now))) }

@@ -67,7 +67,8 @@ fn one_more(
     }
 }
 
-// Where the views of a run stand, put into a table; and how many lead.
+// Where the views of a run stand, put into a table; and how many lead. A walk over views of its own, since it keeps four things
+// at each step: as a closure for a shared walk the step is no plainer.
 fn put_places(
     image: &[u8],
     r: RunSpan,

@@ -12,7 +12,8 @@ ghost use Rattle.sst_view.specs.Runs.{RunInside, views_of, RunCalled};
 use manifest::Judged;
 use records::{RunSpan, ViewRead};
 
-// The place past n runs that are there.
+// The place past n runs that are there. The walk of `records::views_end`, over runs: one for both would take the step as a
+// closure, with a `requires` for each place it comes to, and is no plainer.
 fn runs_end(s: &[u8], from: usize, n: usize) -> usize
     requires fact_1 { from ≤ length s.now }
     requires fact_2 { T (is_got (read_many run.read n (drop from s.now))) }

@@ -61,7 +61,8 @@ fn view_size(image: &[u8], v: ViewSpan) -> u64
     }
 }
 
-// The sum over the views of a run. At most 1,024 of at most 2^53 each: it does not wrap.
+// The sum over the views of a run. At most 1,024 of at most 2^53 each: it does not wrap. A walk over views of its own: an
+// iterator over them would hold what is known of each place as ghost fields, and is no plainer.
 fn run_size(image: &[u8], r: RunSpan) -> u64
     requires fact_1 { RunInside image.now r }
     requires fact_2 { all (λ v. size_passes v.table) (views_of image.now r) ≡ true }
