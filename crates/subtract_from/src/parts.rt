@@ -40,23 +40,21 @@ pub fn part_before<'a>(range: &'a [u8], r: RangeSpan, interval: &'a [u8], start:
     requires fact_3 { BoundInside interval.now start }
     ensures { PartFound range.now interval.now (part_before (key_of (bound_in interval.now start)) (range_in range.now r.start r.end)) result }
 {
-    let kind = start.kind;
-    if keyed(kind) {
-        let below = RangeSpan {
-            start: BoundSpan {
-                kind: Kind::Unbounded,
-                at: 0,
-                len: 0,
-            },
-            end: BoundSpan {
-                kind: Kind::Excluded,
-                at: start.at,
-                len: start.len,
-            },
-        };
-        return cut(range, r, interval, below);
+    if !keyed(start.kind) {
+        return Met::Nothing;
     }
-    Met::Nothing
+    let below = RangeSpan {
+        start: BoundSpan {
+            kind: Kind::Unbounded,
+            at: 0,
+            len: 0,
+        },
+        end: BoundSpan {
+            kind: Kind::Excluded,
+            ..start
+        },
+    };
+    cut(range, r, interval, below)
 }
 
 // The range's keys from the interval's end on.
@@ -66,21 +64,19 @@ pub fn part_from<'a>(range: &'a [u8], r: RangeSpan, interval: &'a [u8], end: Bou
     requires fact_3 { BoundInside interval.now end }
     ensures { PartFound range.now interval.now (part_from (key_of (bound_in interval.now end)) (range_in range.now r.start r.end)) result }
 {
-    let kind = end.kind;
-    if keyed(kind) {
-        let after = RangeSpan {
-            start: BoundSpan {
-                kind: Kind::Included,
-                at: end.at,
-                len: end.len,
-            },
-            end: BoundSpan {
-                kind: Kind::Unbounded,
-                at: 0,
-                len: 0,
-            },
-        };
-        return cut(range, r, interval, after);
+    if !keyed(end.kind) {
+        return Met::Nothing;
     }
-    Met::Nothing
+    let after = RangeSpan {
+        start: BoundSpan {
+            kind: Kind::Included,
+            ..end
+        },
+        end: BoundSpan {
+            kind: Kind::Unbounded,
+            at: 0,
+            len: 0,
+        },
+    };
+    cut(range, r, interval, after)
 }
