@@ -3,9 +3,11 @@
 use Prim.Native.Nat.{ℕ, ◌≤◌}
 use native.Mathlib.Omega.{arith}
 use mathlib.Core.Path.{◌≡◌, sym, ap, ◌∙◌}
-use mathlib.Core.Bool.{Bool, true, false}
+use mathlib.Core.Bool.{Bool, true, false, not}
 use mathlib.Core.List.{List, []}
-use lib.ListN.{length}
+use Rattle.std.proofs.lemmas.Bool.{not-true, not-false}
+use Rattle.std.proofs.lemmas.List.{length-replicate}
+use lib.ListN.{length, replicate}
 use Rattle.base.specs.Outcome.{stop, check, lent, reported}
 use Rattle.base.specs.declared.Written.{Written}
 use Rattle.base.specs.declared.Written.TheVariants.{Stop}
@@ -20,24 +22,11 @@ use Rattle.commit_covered.proofs.Sizes.{few_outputs}
 use Rattle.commit_entries.proofs.Planning.{planned_begin}
 use Rattle.commit_entries.specs.declared.Plan.{Plan}
 use Rattle.commit_outputs.specs.Outputs.{PlannedOutputs}
-use Rattle.commit_plan.specs.Plans.{HeadHeld, GapsReady, OutputsPlanned, CommitPlanned}
-use Rattle.commit_plan.specs.declared.plan.ImagePlan.{ImagePlan}
-use Rattle.commit.specs.Stages.{planned_outcome, covered_outcome, Read, StageHeld, Ready, RowsEnough, rows_at_most}
+use Rattle.commit_plan.specs.Plans.{HeadHeld, GapsReady, OutputsPlanned}
+use Rattle.commit.specs.Stages.{planned_outcome, covered_outcome, Read, StageHeld, RowsEnough, rows_at_most}
 use Rattle.commit.specs.declared.stages.StageHead.{StageHead}
 use Rattle.commit.proofs.FewRows.{rows_least}
 use Rattle.commit.proofs.MostRows.{rows_at_most_lem, outputs_at_most}
-
--- ---- plan_image
-module _ {given record' : List ℕ} (r : Read given record') where
-  pub stage_ready : {ids runs rows : List ℕ} {a : ImagePlan} {before : List ℕ} → RowsEnough given record' before → CommitPlanned given record' ids rows runs a → length rows ≡ length before → Ready given record' ids runs rows a
-  stage_ready h p e =
-      record {
-        there = r.there;
-        bytes = r.passed.bytes;
-        job_bytes = r.job_bytes;
-        planned = p;
-        room = λ l. rw (p.planned.count, e) (h.enough (rw (← p.bytes) l));
-      }
 
 -- ---- cover_image
 module _ {given record' index parts : List ℕ} {h : StageHead} (s : StageHeld given record' index parts h) where
@@ -66,41 +55,39 @@ pub stage_long : {given record' ids d t before : List ℕ} {p : Plan} → RowsEn
 stage_long h e o = record { enough = λ l. rw ((o.planned []).same, e) (h.enough l) }
 
 module _ (given record' ids out : List ℕ) {b : Bool} (e : b ≡ covered_by (job_gaps record') (image_of given) (job_of record')) where
-  yes : b ≡ true → covered_outcome given record' ids (length out) ≡ planned_outcome given record' ids (length out)
-  yes h = ap (λ (t : Bool). check 12 t (planned_outcome given record' ids (length out))) (sym e ∙ h)
+  yes : not b ≡ false → covered_outcome given record' ids (length out) ≡ planned_outcome given record' ids (length out)
+  yes h = ap (λ (t : Bool). check 12 t (planned_outcome given record' ids (length out))) (sym e ∙ not-false b h)
 
-  no : b ≡ false → covered_outcome given record' ids (length out) ≡ stop 12
-  no h = ap (λ (t : Bool). check 12 t (planned_outcome given record' ids (length out))) (sym e ∙ h)
+  no : not b ≡ true → covered_outcome given record' ids (length out) ≡ stop 12
+  no h = ap (λ (t : Bool). check 12 t (planned_outcome given record' ids (length out))) (sym e ∙ not-true b h)
 
-  pub covered_report : {r : Written} → b ≡ true → r ≡ reported (planned_outcome given record' ids (length out)) → r ≡ reported (covered_outcome given record' ids (length out))
+  pub covered_report : {r : Written} → not b ≡ false → r ≡ reported (planned_outcome given record' ids (length out)) → r ≡ reported (covered_outcome given record' ids (length out))
   covered_report h q = q ∙ sym (ap reported (yes h))
 
-  pub covered_written : {o : List ℕ} → b ≡ true → o ≡ lent out (planned_outcome given record' ids (length out)) → o ≡ lent out (covered_outcome given record' ids (length out))
+  pub covered_written : {o : List ℕ} → not b ≡ false → o ≡ lent out (planned_outcome given record' ids (length out)) → o ≡ lent out (covered_outcome given record' ids (length out))
   covered_written h q = q ∙ sym (ap (lent out) (yes h))
 
-  pub uncovered : b ≡ false → Stop 12 ≡ reported (covered_outcome given record' ids (length out))
+  pub uncovered : not b ≡ true → Stop 12 ≡ reported (covered_outcome given record' ids (length out))
   uncovered h = sym (ap reported (no h))
 
-  pub uncovered_kept : b ≡ false → out ≡ lent out (covered_outcome given record' ids (length out))
+  pub uncovered_kept : not b ≡ true → out ≡ lent out (covered_outcome given record' ids (length out))
   uncovered_kept h = sym (ap (lent out) (no h))
 
 pub ruleset cover_exits = (stage_head, stage_cover, stage_gaps, stage_outputs, stage_long, covered_report, covered_written, uncovered, uncovered_kept)
 
--- ---- apply_few and apply_many
+-- ---- the tables of rows
 -- two numbers for each output, eleven for each row
-pub few_room : (given : List ℕ) {record' rows : List ℕ} → rows_at_most (image_of given) (job_of record') ≤ 64 → 704 ≤ length rows → Room record' rows
-few_room given {record'} h l = record { enough = omega (arith, outputs_at_most (image_of given) (job_of record')) }
+-- two numbers for each output, eleven for each row
+pub few_room : (given : List ℕ) {record' : List ℕ} {n : ℕ} → n ≡ rows_at_most (image_of given) (job_of record') → n ≤ 64 → Room record' (replicate 704 0)
+few_room given {record'} e h = record { enough = rw length-replicate (omega (arith, e, outputs_at_most (image_of given) (job_of record'))) }
 
-pub few_enough : {given record' rows : List ℕ} → rows_at_most (image_of given) (job_of record') ≤ 64 → 704 ≤ length rows → RowsEnough given record' rows
-few_enough {given} {record'} h l = record { enough = λ _. omega (arith, rows_at_most_lem (image_of given) (job_of record')) }
+pub few_enough : {given record' : List ℕ} {n : ℕ} → n ≡ rows_at_most (image_of given) (job_of record') → n ≤ 64 → RowsEnough given record' (replicate 704 0)
+few_enough {given} {record'} e h = record { enough = λ _. rw length-replicate (omega (arith, e, rows_at_most_lem (image_of given) (job_of record'))) }
 
-pub many_room : {record' rows : List ℕ} → length record' ≤ 65536 → 12012 ≤ length rows → Room record' rows
-many_room {record'} h l = record { enough = omega (arith, few_outputs record') }
+pub many_room : {record' : List ℕ} → length record' ≤ 65536 → Room record' (replicate 12012 0)
+many_room {record'} h = record { enough = rw length-replicate (omega (arith, few_outputs record')) }
 
-pub many_enough : {given record' rows : List ℕ} → Read given record' → 12012 ≤ length rows → RowsEnough given record' rows
-many_enough r l = record { enough = λ s. omega (arith, s, rows_least r.passed.bytes r.job_bytes r.destination r.sources) }
+pub many_enough : {given record' : List ℕ} → Read given record' → RowsEnough given record' (replicate 12012 0)
+many_enough r = record { enough = λ s. rw length-replicate (omega (arith, s, rows_least r.passed.bytes r.job_bytes r.destination r.sources)) }
 
--- ---- apply_stages
-module _ {given record' index parts : List ℕ} {h : StageHead} (s : StageHeld given record' index parts h) where
-  pub few_rows : {n : ℕ} → n ≡ rows_at_most (image_of given) (job_of record') → n ≤ 64 → rows_at_most (image_of given) (job_of record') ≤ 64
-  few_rows e h = rw (← e) h
+pub ruleset table_exits = (few_room, few_enough, many_room, many_enough)

@@ -3,8 +3,9 @@
 use Prim.Native.Nat.{ℕ, ◌+◌, ◌≤◌, ◌<◌}
 use native.Mathlib.Omega.{arith}
 use mathlib.Core.Path.{◌≡◌, refl, sym, ap, subst, ◌∙◌}
-use mathlib.Core.Bool.{Bool, true, false, ◌&&◌}
-use mathlib.Core.List.{List, [], ◌++◌}
+use mathlib.Core.Bool.{Bool, true, false, not, ◌&&◌}
+use mathlib.Core.List.{List, ◌++◌}
+use Rattle.std.proofs.lemmas.Bool.{not-true}
 use lib.ListN.{length, drop}
 use lib.Dec.{T, leb}
 use borrow.Author.Tests.{le-leb, lt-leb}
@@ -30,10 +31,10 @@ use Rattle.commit.proofs.PlanWritten.{planned_is_new, new_writable}
 
 -- ---- finish
 module _ {given record' ids runs rows : List ℕ} {a : ImagePlan} (r : Ready given record' ids runs rows a) (out : List ℕ) where
-  module _ (e : a.plan.enough ≡ false) where
+  module _ (e : not a.plan.enough ≡ true) where
     used : planned_outcome given record' ids (length out) ≡ stop 14
     unfolding drawn_outcome drawn_image
-    used = rw (not_drawn r.planned e)
+    used = rw (not_drawn r.planned (not-true a.plan.enough e))
 
     pub finish_used : Stop 14 ≡ reported (planned_outcome given record' ids (length out))
     finish_used = sym (ap reported used)
@@ -64,16 +65,13 @@ module _ {given record' ids runs rows : List ℕ} {a : ImagePlan} (r : Ready giv
     pub finish_long_kept : a.fits ≡ true → 65536 < a.bytes → out ≡ lent out (planned_outcome given record' ids (length out))
     finish_long_kept h k = sym (ap (lent out) (large (too_long h k)))
 
-    pub settled : a.fits ≡ true → a.bytes ≤ 65536 → Settled given record' ids runs rows a
-    settled h k = record { ready = r; enough = e; fits = h; short = k }
-
 pub few_places : {a : ImagePlan} {order : List ℕ} → a.plan.rows ≤ 64 → 64 ≤ length order → OrderLong a order
 few_places h l = record { enough = λ n _ k. omega arith }
 
 pub many_places : {a : ImagePlan} {order : List ℕ} → 1024 ≤ length order → OrderLong a order
 many_places l = record { enough = λ n k _. omega arith }
 
-pub ruleset finish_exits = (few_places, many_places, finish_used, finish_used_kept, finish_many, finish_many_kept, finish_long, finish_long_kept, settled)
+pub ruleset finish_exits = (few_places, many_places, finish_used, finish_used_kept, finish_many, finish_many_kept, finish_long, finish_long_kept)
 
 -- ---- write_image
 within : (b : Bool) (n : ℕ) → b ≡ true → n ≤ 65536 → (b && leb n 65536) ≡ true

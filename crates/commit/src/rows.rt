@@ -15,10 +15,8 @@ fn column_sum(table: &[usize], w: usize, c: usize, n: usize) -> usize
     ensures { result ≡ column_sum c (rows_in w n table.now) }
 {
     let mut sum = 0;
-    let mut k = 0;
-    while k < n {
+    for k in 0..n {
         sum += table[k * w + c];
-        k += 1;
     }
     sum
 }

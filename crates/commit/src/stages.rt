@@ -1,5 +1,5 @@
 // The stages of a commit after the checks 1 to 7. Each table is lent by the stage before, which made it.
-ghost use Rattle.std.specs.Prelude.{◌≡◌, ◌≤◌, length};
+ghost use Rattle.std.specs.Prelude.{◌≡◌, ◌≤◌, length, replicate};
 ghost use Rattle.base.specs.Outcome.{lent, reported};
 ghost use Rattle.commit_plan.specs.Plans.{HeadHeld, GapsReady, OutputsPlanned};
 ghost use Rattle.commit_index.specs.Index.{image_of, IndexHold};
@@ -101,23 +101,23 @@ fn cover_image<'a>(
         gaps: m,
         runs: head.runs,
     };
-    if covered(image, job, index, parts, &gaps, rows, cover) {
-        let outputs = commit_outputs::plan_outputs(job, ids, parts, head.parts, rows);
-        let plan = PlanHead {
-            destination: head.destination,
-            sources: head.sources,
-            from: head.from,
-            gaps: m,
-            runs: head.runs,
-            outputs,
-        };
-        return plan_image(image, job, ids, index, &gaps, rows, out, plan);
+    if !covered(image, job, index, parts, &gaps, rows, cover) {
+        return Written::Stop(12);
     }
-    Written::Stop(12)
+    let outputs = commit_outputs::plan_outputs(job, ids, parts, head.parts, rows);
+    let plan = PlanHead {
+        destination: head.destination,
+        sources: head.sources,
+        from: head.from,
+        gaps: m,
+        runs: head.runs,
+        outputs,
+    };
+    plan_image(image, job, ids, index, &gaps, rows, out, plan)
 }
 
-// The same with a table of few rows: to clear 12,012 numbers takes longer than a short commit.
-fn apply_few<'a>(
+// The same with a table of N places, which is long enough.
+fn apply_with<'a, const N: usize>(
     image: &'a [u8],
     job: &'a [u8],
     ids: &[u8],
@@ -128,35 +128,17 @@ fn apply_few<'a>(
 ) -> Written
     requires fact_1 { Read image.now job.now }
     requires fact_2 { StageHeld image.now job.now index.now parts.now head }
-    requires fact_3 { rows_at_most (image_of image.now) (job_of job.now) ≤ 64 }
+    requires fact_3 { N ≤ 12012 }
+    requires fact_4 { Room job.now (replicate N 0) }
+    requires fact_5 { RowsEnough image.now job.now (replicate N 0) }
     ensures value { result ≡ reported (covered_outcome image.now job.now ids.now (length out.old)) }
     ensures out_after { out.new ≡ lent out.old (covered_outcome image.now job.now ids.now (length out.old)) }
 {
-    let mut rows = [0usize; 704];
+    let mut rows = [0usize; N];
     cover_image(image, job, ids, index, parts, &mut rows, out, head)
 }
 
-// The same with as many rows as an image within the ceiling can have.
-fn apply_many<'a>(
-    image: &'a [u8],
-    job: &'a [u8],
-    ids: &[u8],
-    index: &[usize],
-    parts: &[usize],
-    out: &mut [u8],
-    head: StageHead,
-) -> Written
-    requires fact_1 { Read image.now job.now }
-    requires fact_2 { StageHeld image.now job.now index.now parts.now head }
-    requires fact_3 { length job.now ≤ 65536 }
-    ensures value { result ≡ reported (covered_outcome image.now job.now ids.now (length out.old)) }
-    ensures out_after { out.new ≡ lent out.old (covered_outcome image.now job.now ids.now (length out.old)) }
-{
-    let mut rows = [0usize; 12012];
-    cover_image(image, job, ids, index, parts, &mut rows, out, head)
-}
-
-// The stages, with as many rows as they may need.
+// The stages, with as many rows as they may need: to clear 12,012 numbers takes longer than a short commit.
 fn apply_stages<'a>(
     image: &'a [u8],
     job: &'a [u8],
@@ -173,9 +155,9 @@ fn apply_stages<'a>(
     ensures out_after { out.new ≡ lent out.old (covered_outcome image.now job.now ids.now (length out.old)) }
 {
     if rows_at_most(image, job, index, parts, head.runs, head.parts) <= 64 {
-        return apply_few(image, job, ids, index, parts, out, head);
+        return apply_with::<704>(image, job, ids, index, parts, out, head);
     }
-    apply_many(image, job, ids, index, parts, out, head)
+    apply_with::<12012>(image, job, ids, index, parts, out, head)
 }
 
 // The number of the first of the checks 8 to 11 that fails, or 12.
@@ -184,13 +166,13 @@ fn job_fault(image: &[u8], job: &[u8], index: &[usize], n: usize, head: JobHead)
     requires fact_2 { HeadTold job.now head }
     ensures { result ≡ progress_fault (image_of image.now) (job_of job.now) }
 {
-    if commit_durable::is_source(job, head.from, head.sources, head.destination) {
-        if commit_index::sources_there(image, index, n, job, head.from, head.sources) {
-            return head.late;
-        }
+    if !commit_durable::is_source(job, head.from, head.sources, head.destination) {
+        return 8;
+    }
+    if !commit_index::sources_there(image, index, n, job, head.from, head.sources) {
         return 9;
     }
-    8
+    head.late
 }
 
 // An image and a job that passed the checks 1 to 7, with the tables of n runs and of the job's parts.

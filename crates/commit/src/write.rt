@@ -49,19 +49,16 @@ pub fn finish<'a>(
     ensures value { result ≡ reported (planned_outcome image.now job.now ids.now (length out.old)) }
     ensures out_after { out.new ≡ lent out.old (planned_outcome image.now job.now ids.now (length out.old)) }
 {
-    let plan = a.plan;
-    if plan.enough {
-        if a.fits {
-            if a.bytes <= 65536 {
-                if plan.rows <= 64 {
-                    let mut order = [0usize; 64];
-                    return write_image(image, job, ids, runs, rows, &mut order, out, a);
-                }
-                let mut order = [0usize; 1024];
-                return write_image(image, job, ids, runs, rows, &mut order, out, a);
-            }
-        }
+    if !a.plan.enough {
+        return Written::Stop(14);
+    }
+    if !a.fits || 65536 < a.bytes {
         return Written::Stop(15);
     }
-    Written::Stop(14)
+    if a.plan.rows <= 64 {
+        let mut order = [0usize; 64];
+        return write_image(image, job, ids, runs, rows, &mut order, out, a);
+    }
+    let mut order = [0usize; 1024];
+    write_image(image, job, ids, runs, rows, &mut order, out, a)
 }

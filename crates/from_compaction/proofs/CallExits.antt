@@ -2,8 +2,9 @@
 -- Assumes nothing.
 use Prim.Native.Nat.{ℕ, ◌+◌, ◌*◌, ◌≤◌, ◌<◌}
 use mathlib.Core.Path.{◌≡◌, sym, ap, subst, ◌∙◌}
-use mathlib.Core.Bool.{Bool, true, false}
+use mathlib.Core.Bool.{Bool, true, false, not}
 use mathlib.Core.List.{List}
+use Rattle.std.proofs.lemmas.Bool.{not-true, not-false}
 use lib.ListN.{length, drop}
 use borrow.Author.Tests.{le-leb, lt-leb}
 use Rattle.base.specs.Outcome.{Outcome, answer, and_then, lent, written_to, reported}
@@ -98,10 +99,10 @@ module _ (t out : List ℕ) where
         unfolding destination_is_source
         is_source = rw (e, told.destination, told.sources)
 
-        module _ (u : a ≡ false) where
+        module _ (u : not a ≡ true) where
           no_source : from_compaction_outcome t (length out) ≡ outcome.stop 8
           unfolding progressed
-          no_source = passed ∙ rw (is_source, u)
+          no_source = passed ∙ rw (is_source, not-true a u)
 
           pub no_source_reported : Stop 8 ≡ reported (from_compaction_outcome t (length out))
           no_source_reported = reports no_source
@@ -109,10 +110,10 @@ module _ (t out : List ℕ) where
           pub no_source_lent : out ≡ lent out (from_compaction_outcome t (length out))
           no_source_lent = leaves out no_source
 
-        module _ (u : a ≡ true) where
+        module _ (u : not a ≡ false) where
           module _ (k : b.late < 12) where
             late : from_compaction_outcome t (length out) ≡ outcome.stop b.late
-            late = passed ∙ ap to_buffer (late_stops (job_of t) (is_source ∙ u) (rw told.late at k)) ∙ ap outcome.stop (sym told.late)
+            late = passed ∙ ap to_buffer (late_stops (job_of t) (is_source ∙ not-false a u) (rw told.late at k)) ∙ ap outcome.stop (sym told.late)
 
             pub late_reported : Stop b.late ≡ reported (from_compaction_outcome t (length out))
             late_reported = reports late
@@ -122,7 +123,7 @@ module _ (t out : List ℕ) where
 
           module _ (k : 12 ≤ b.late) where
             made : from_compaction_outcome t (length out) ≡ written_to (length out) (plan.write (job_ranges t))
-            made = passed ∙ ap to_buffer (late_passes (job_of t) (is_source ∙ u) (rw told.late at k))
+            made = passed ∙ ap to_buffer (late_passes (job_of t) (is_source ∙ not-false a u) (rw told.late at k))
 
             pub made_reported : {r : Written} → r ≡ reported (written_to (length out) (plan.write (job_ranges t))) → r ≡ reported (from_compaction_outcome t (length out))
             made_reported z = z ∙ sym (ap reported made)

@@ -24,18 +24,16 @@ pub fn from_compaction(job: &[u8], out: &mut [u8]) -> Written
     match commit_durable::job_read(job, &mut parts) {
         JobJudged::Stop(k) => Written::Stop(k),
         JobJudged::At(head) => {
-            let fault = head.fault;
-            if fault < 8 {
-                return Written::Stop(fault);
+            if head.fault < 8 {
+                return Written::Stop(head.fault);
             }
-            if commit_durable::is_source(job, head.from, head.sources, head.destination) {
-                let late = head.late;
-                if late < 12 {
-                    return Written::Stop(late);
-                }
-                return write_ranges(job, &parts, head.parts, out);
+            if !commit_durable::is_source(job, head.from, head.sources, head.destination) {
+                return Written::Stop(8);
             }
-            Written::Stop(8)
+            if head.late < 12 {
+                return Written::Stop(head.late);
+            }
+            write_ranges(job, &parts, head.parts, out)
         }
     }
 }

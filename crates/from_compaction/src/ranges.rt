@@ -19,11 +19,9 @@ fn part_size(job: &[u8], p: PartSpan) -> usize
     requires fact_3 { length job.now ≤ 65536 }
     ensures { Sized (range_in job.now p.start p.end) result }
 {
-    let start = p.start;
-    let end = p.end;
-    let ks = start.kind;
-    let ke = end.kind;
-    range_write::range_size(ks, key_of(job, start), ke, key_of(job, end))
+    let start = key_of(job, p.start);
+    let end = key_of(job, p.end);
+    range_write::range_size(p.start.kind, start, p.end.kind, end)
 }
 
 // The range of a part. Answers the place past what was put.
@@ -33,11 +31,9 @@ fn put_part(job: &[u8], p: PartSpan, out: &mut [u8], to: usize) -> usize
     requires fact_3 { to + length (write_range (range_in job.now p.start p.end)) ≤ length out.old }
     ensures { Put out.old to (write_range (range_in job.now p.start p.end)) out.new result }
 {
-    let start = p.start;
-    let end = p.end;
-    let ks = start.kind;
-    let ke = end.kind;
-    range_write::put_range(ks, key_of(job, start), ke, key_of(job, end), out, to)
+    let start = key_of(job, p.start);
+    let end = key_of(job, p.end);
+    range_write::put_range(p.start.kind, start, p.end.kind, end, out, to)
 }
 
 // How many parts have a durable interval, and how many bytes its ranges take.
@@ -54,10 +50,8 @@ fn measured(job: &[u8], parts: &[usize], n: usize) -> Measure
 {
     let mut count = 0;
     let mut bytes = 0;
-    let mut k = 0;
-    while k < n {
+    for k in 0..n {
         let p = part_at(job, parts, n, k);
-        k += 1;
         if p.durable {
             count += 1;
             bytes += part_size(job, p);
@@ -73,10 +67,8 @@ fn put_ranges(job: &[u8], parts: &[usize], n: usize, out: &mut [u8], first: usiz
     ensures { Put out.old first (ranges_bytes (job_ranges job.now)) out.new result }
 {
     let mut to = first;
-    let mut k = 0;
-    while k < n {
+    for k in 0..n {
         let p = part_at(job, parts, n, k);
-        k += 1;
         if p.durable {
             to = put_part(job, p, out, to);
         }

@@ -2,8 +2,9 @@
 -- Assumes nothing.
 use Prim.Native.Nat.{ℕ, ◌≤◌}
 use mathlib.Core.Path.{◌≡◌, sym, ap, ◌∙◌}
-use mathlib.Core.Bool.{Bool, true, false, and-false}
+use mathlib.Core.Bool.{Bool, true, false, not, and-false}
 use mathlib.Core.List.{List}
+use Rattle.std.proofs.lemmas.Bool.{not-true, not-false}
 use lib.ListN.{length}
 use Rattle.base.specs.Outcome.{Outcome, stop, answer, lent, reported, written_to}
 use Rattle.base.specs.declared.Written.{Written}
@@ -35,14 +36,14 @@ leaves d k e = rw e
 -- ---- subtracted
 module _ (a b : List ℕ) (t f s e : BoundSpan) (room : ℕ) where
   module _ {p : Bool} (i : p ≡ non_empty (range_in b s e)) where
-    interval_fails : p ≡ false → subtracted_to room (range_in b s e) (range_in a t f) ≡ stop 4
+    interval_fails : not p ≡ true → subtracted_to room (range_in b s e) (range_in a t f) ≡ stop 4
     unfolding subtracted
-    interval_fails w = rw (← i, w)
+    interval_fails w = rw (← i, not-true p w)
 
-    pub interval_fails_reported : p ≡ false → Stop 4 ≡ reported (subtracted_to room (range_in b s e) (range_in a t f))
+    pub interval_fails_reported : not p ≡ true → Stop 4 ≡ reported (subtracted_to room (range_in b s e) (range_in a t f))
     interval_fails_reported w = reports 4 (interval_fails w)
 
-    pub interval_fails_lent : (o : List ℕ) → p ≡ false → o ≡ lent o (subtracted_to room (range_in b s e) (range_in a t f))
+    pub interval_fails_lent : (o : List ℕ) → not p ≡ true → o ≡ lent o (subtracted_to room (range_in b s e) (range_in a t f))
     interval_fails_lent o w = leaves o 4 (interval_fails w)
 
     module _ {q : Bool} (j : q ≡ non_empty (range_in a t f)) where
@@ -56,24 +57,24 @@ module _ (a b : List ℕ) (t f s e : BoundSpan) (room : ℕ) where
       pub range_fails_lent : (o : List ℕ) → q ≡ false → o ≡ lent o (subtracted_to room (range_in b s e) (range_in a t f))
       range_fails_lent o w = leaves o 4 (range_fails w)
 
-      module _ {h : Bool} (k : h ≡ half_open_kinds s.kind e.kind) (u : p ≡ true) (v : q ≡ true) where
+      module _ {h : Bool} (k : h ≡ half_open_kinds s.kind e.kind) (u : not p ≡ false) (v : q ≡ true) where
         is_open : half_open (range_in b s e) ≡ h
         is_open = sym (half_open_lem s.kind e.kind _ _) ∙ sym k
 
-        open_fails : h ≡ false → subtracted_to room (range_in b s e) (range_in a t f) ≡ stop 10
+        open_fails : not h ≡ true → subtracted_to room (range_in b s e) (range_in a t f) ≡ stop 10
         unfolding subtracted
-        open_fails w = rw (← i, ← j, u, v, is_open, w)
+        open_fails w = rw (← i, ← j, not-false p u, v, is_open, not-true h w)
 
-        pub open_fails_reported : h ≡ false → Stop 10 ≡ reported (subtracted_to room (range_in b s e) (range_in a t f))
+        pub open_fails_reported : not h ≡ true → Stop 10 ≡ reported (subtracted_to room (range_in b s e) (range_in a t f))
         open_fails_reported w = reports 10 (open_fails w)
 
-        pub open_fails_lent : (o : List ℕ) → h ≡ false → o ≡ lent o (subtracted_to room (range_in b s e) (range_in a t f))
+        pub open_fails_lent : (o : List ℕ) → not h ≡ true → o ≡ lent o (subtracted_to room (range_in b s e) (range_in a t f))
         open_fails_lent o w = leaves o 10 (open_fails w)
 
-        module _ {m n : Met} (x : PartFound a b (part_before (key_of (bound_in b s)) (range_in a t f)) m) (y : PartFound a b (part_from (key_of (bound_in b e)) (range_in a t f)) n) (w : h ≡ true) where
+        module _ {m n : Met} (x : PartFound a b (part_before (key_of (bound_in b s)) (range_in a t f)) m) (y : PartFound a b (part_from (key_of (bound_in b e)) (range_in a t f)) n) (w : not h ≡ false) where
           all_pass : subtracted_to room (range_in b s e) (range_in a t f) ≡ written_to room (plan.write (parts_in a b m n))
           unfolding subtracted subtract_from
-          all_pass = rw (← i, ← j, u, v, is_open, w, x.meaning, y.meaning)
+          all_pass = rw (← i, ← j, not-false p u, v, is_open, not-false h w, x.meaning, y.meaning)
 
           pub parts_reported : {z : Written} → z ≡ reported (written_to room (plan.write (parts_in a b m n))) → z ≡ reported (subtracted_to room (range_in b s e) (range_in a t f))
           parts_reported c = c ∙ sym (ap reported all_pass)

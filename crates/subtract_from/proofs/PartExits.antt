@@ -2,9 +2,10 @@
 -- Assumes nothing.
 use Prim.Native.Nat.{ℕ}
 use mathlib.Core.Path.{◌≡◌, refl, sym, ◌∙◌}
-use mathlib.Core.Bool.{Bool, true, false, true≢false}
+use mathlib.Core.Bool.{Bool, true, false, not, true≢false}
 use mathlib.Core.Option.{none, some}
 use mathlib.Core.List.{List}
+use Rattle.std.proofs.lemmas.Bool.{not-true, not-false}
 use lib.ListN.{take, drop}
 use Rattle.key.specs.Order.{Key}
 use Rattle.comparable_range.specs.Factors.{is_keyed}
@@ -65,25 +66,25 @@ module _ (a b : List ℕ) (r : RangeSpan) (x : BoundSpan) {t : Bool} (e : t ≡ 
   abbrev key : Key
   key = take x.len (drop x.at b)
 
-  is_some : t ≡ true → key_of (bound_in b x) ≡ some (take x.len (drop x.at b))
-  is_some w = some_key x.kind key (sym e ∙ w)
+  is_some : not t ≡ false → key_of (bound_in b x) ≡ some (take x.len (drop x.at b))
+  is_some w = some_key x.kind key (sym e ∙ not-false t w)
 
-  is_none : t ≡ false → key_of (bound_in b x) ≡ none
-  is_none w = no_key x.kind key (sym e ∙ w)
+  is_none : not t ≡ true → key_of (bound_in b x) ≡ none
+  is_none w = no_key x.kind key (sym e ∙ not-true t w)
 
-  pub before_found : {m : Met} → t ≡ true → PartFound a b (intersect (range_in a r.start r.end) (record { start = unbounded; end = excluded (take x.len (drop x.at b)) })) m → PartFound a b (part_before (key_of (bound_in b x)) (range_in a r.start r.end)) m
+  pub before_found : {m : Met} → not t ≡ false → PartFound a b (intersect (range_in a r.start r.end) (record { start = unbounded; end = excluded (take x.len (drop x.at b)) })) m → PartFound a b (part_before (key_of (bound_in b x)) (range_in a r.start r.end)) m
   unfolding part_before
   before_found w p = rw (is_some w) p
 
-  pub none_before : t ≡ false → PartFound a b (part_before (key_of (bound_in b x)) (range_in a r.start r.end)) None
+  pub none_before : not t ≡ true → PartFound a b (part_before (key_of (bound_in b x)) (range_in a r.start r.end)) Nothing
   unfolding part_before
   none_before w = rw (is_none w) (record { meaning = refl; inside = tt })
 
-  pub from_found : {m : Met} → t ≡ true → PartFound a b (intersect (range_in a r.start r.end) (record { start = included (take x.len (drop x.at b)); end = unbounded })) m → PartFound a b (part_from (key_of (bound_in b x)) (range_in a r.start r.end)) m
+  pub from_found : {m : Met} → not t ≡ false → PartFound a b (intersect (range_in a r.start r.end) (record { start = included (take x.len (drop x.at b)); end = unbounded })) m → PartFound a b (part_from (key_of (bound_in b x)) (range_in a r.start r.end)) m
   unfolding part_from
   from_found w p = rw (is_some w) p
 
-  pub none_from : t ≡ false → PartFound a b (part_from (key_of (bound_in b x)) (range_in a r.start r.end)) None
+  pub none_from : not t ≡ true → PartFound a b (part_from (key_of (bound_in b x)) (range_in a r.start r.end)) Nothing
   unfolding part_from
   none_from w = rw (is_none w) (record { meaning = refl; inside = tt })
 

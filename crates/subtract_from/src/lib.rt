@@ -34,22 +34,17 @@ fn subtracted<'a>(
     ensures value { result ≡ reported (subtracted_to (length out.old) (span_in interval.now d) (span_in range.now r)) }
     ensures out_after { out.new ≡ lent out.old (subtracted_to (length out.old) (span_in interval.now d) (span_in range.now r)) }
 {
-    let start = d.start;
-    let end = d.end;
-    if span::passes(interval, start, interval, end) {
-        if span::passes(range, r.start, range, r.end) {
-            let ks = start.kind;
-            let ke = end.kind;
-            if half_open(ks, ke) {
-                let before = part_before(range, r, interval, start);
-                let from = part_from(range, r, interval, end);
-                return parts_written(range, interval, before, from, out);
-            }
-            return Written::Stop(10);
-        }
+    if !span::passes(interval, d.start, interval, d.end)
+        || !span::passes(range, r.start, range, r.end)
+    {
         return Written::Stop(4);
     }
-    Written::Stop(4)
+    if !half_open(d.start.kind, d.end.kind) {
+        return Written::Stop(10);
+    }
+    let before = part_before(range, r, interval, d.start);
+    let from = part_from(range, r, interval, d.end);
+    parts_written(range, interval, before, from, out)
 }
 
 // Reads a durable interval and a range, and writes to the front of out the parts of the range outside the interval: none, one

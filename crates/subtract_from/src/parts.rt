@@ -18,19 +18,17 @@ fn cut<'a>(a: &'a [u8], r: RangeSpan, b: &'a [u8], q: RangeSpan) -> Option<Joint
     requires fact_4 { BoundInside b.now q.end }
     ensures { PartFound a.now b.now (intersect (range_in a.now r.start r.end) (range_in b.now q.start q.end)) result }
 {
-    match span::intersect(a, r, b, q) {
-        None => None,
-        Some((s, e)) => Some(JointSpan {
-            start: Supplied {
-                side: s,
-                bound: bound_of(s, r.start, q.start),
-            },
-            end: Supplied {
-                side: e,
-                bound: bound_of(e, r.end, q.end),
-            },
-        }),
-    }
+    let (s, e) = span::intersect(a, r, b, q)?;
+    Some(JointSpan {
+        start: Supplied {
+            side: s,
+            bound: bound_of(s, r.start, q.start),
+        },
+        end: Supplied {
+            side: e,
+            bound: bound_of(e, r.end, q.end),
+        },
+    })
 }
 
 // The range's keys before the interval's start.
@@ -45,23 +43,21 @@ pub fn part_before<'a>(
     requires fact_3 { BoundInside interval.now start }
     ensures { PartFound range.now interval.now (part_before (key_of (bound_in interval.now start)) (range_in range.now r.start r.end)) result }
 {
-    let kind = start.kind;
-    if keyed(kind) {
-        let below = RangeSpan {
-            start: BoundSpan {
-                kind: Kind::Unbounded,
-                at: 0,
-                len: 0,
-            },
-            end: BoundSpan {
-                kind: Kind::Excluded,
-                at: start.at,
-                len: start.len,
-            },
-        };
-        return cut(range, r, interval, below);
+    if !keyed(start.kind) {
+        return None;
     }
-    None
+    let below = RangeSpan {
+        start: BoundSpan {
+            kind: Kind::Unbounded,
+            at: 0,
+            len: 0,
+        },
+        end: BoundSpan {
+            kind: Kind::Excluded,
+            ..start
+        },
+    };
+    cut(range, r, interval, below)
 }
 
 // The range's keys from the interval's end on.
@@ -76,21 +72,19 @@ pub fn part_from<'a>(
     requires fact_3 { BoundInside interval.now end }
     ensures { PartFound range.now interval.now (part_from (key_of (bound_in interval.now end)) (range_in range.now r.start r.end)) result }
 {
-    let kind = end.kind;
-    if keyed(kind) {
-        let after = RangeSpan {
-            start: BoundSpan {
-                kind: Kind::Included,
-                at: end.at,
-                len: end.len,
-            },
-            end: BoundSpan {
-                kind: Kind::Unbounded,
-                at: 0,
-                len: 0,
-            },
-        };
-        return cut(range, r, interval, after);
+    if !keyed(end.kind) {
+        return None;
     }
-    None
+    let after = RangeSpan {
+        start: BoundSpan {
+            kind: Kind::Included,
+            ..end
+        },
+        end: BoundSpan {
+            kind: Kind::Unbounded,
+            at: 0,
+            len: 0,
+        },
+    };
+    cut(range, r, interval, after)
 }

@@ -19,13 +19,9 @@ fn part_size<'a>(a: &'a [u8], b: &'a [u8], m: Option<JointSpan>) -> usize
     match m {
         None => 0,
         Some(j) => {
-            let start = j.start;
-            let end = j.end;
-            let s = start.bound;
-            let e = end.bound;
-            let ks = s.kind;
-            let ke = e.kind;
-            range_write::range_size(ks, supplied_key(a, b, start), ke, supplied_key(a, b, end))
+            let start = supplied_key(a, b, j.start);
+            let end = supplied_key(a, b, j.end);
+            range_write::range_size(j.start.bound.kind, start, j.end.bound.kind, end)
         }
     }
 }
@@ -39,20 +35,9 @@ fn put_part<'a>(a: &'a [u8], b: &'a [u8], m: Option<JointSpan>, out: &mut [u8], 
     match m {
         None => to,
         Some(j) => {
-            let start = j.start;
-            let end = j.end;
-            let s = start.bound;
-            let e = end.bound;
-            let ks = s.kind;
-            let ke = e.kind;
-            range_write::put_range(
-                ks,
-                supplied_key(a, b, start),
-                ke,
-                supplied_key(a, b, end),
-                out,
-                to,
-            )
+            let start = supplied_key(a, b, j.start);
+            let end = supplied_key(a, b, j.end);
+            range_write::put_range(j.start.bound.kind, start, j.end.bound.kind, end, out, to)
         }
     }
 }

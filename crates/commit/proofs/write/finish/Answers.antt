@@ -1,38 +1,29 @@
 -- `commit::write::finish` meets its contract.
 -- Assumes nothing.
-use Rattle.commit.proofs.WriteExits.{finish_exits}
+use Rattle.commit.proofs.WriteExits.{finish_many, finish_many_kept, finish_long, finish_long_kept, finish_exits}
 use borrow.Author.Rules.{rules}
+use Rattle.std.proofs.lemmas.Bool.{not-true, not-false}
+use Rattle.commit.proofs.write.finish.Goals.{then-not-a-2-via-then-not-a-2, then-not-a-2-via-else-not-a-2+then-a-gt65536}
 use Rattle.commit.proofs.write.finish.Goals as goal
 
-pub slice_bounds-write_image-end : goal.slice_bounds-write_image-end
-slice_bounds-write_image-end c = search (rules, finish_exits)
+pub returns-then-not-a-clause-value : goal.returns-then-not-a-clause-value
+returns-then-not-a-clause-value c = search (rules, finish_exits)
 
-pub write_image-requires : goal.write_image-requires
-write_image-requires c = search (rules, finish_exits)
+pub returns-then-not-a-clause-out_after : goal.returns-then-not-a-clause-out_after
+returns-then-not-a-clause-out_after c = search (rules, finish_exits)
 
-pub shape_of-out-then-plan-le64 : goal.shape_of-out-then-plan-le64
-shape_of-out-then-plan-le64 c = search (rules, finish_exits)
+pub returns-then-not-a-2-clause-value : goal.returns-then-not-a-2-clause-value
+returns-then-not-a-2-clause-value c =
+    let e = not-false c.args.a.plan.enough c.if-not-a.false in
+    elim c.then-not-a-2.branch [
+      | then-not-a-2-via-then-not-a-2 w ↦ finish_many c.requires c.args.out.now e (not-true c.args.a.fits w.if-not-a-2.true)
+      | then-not-a-2-via-else-not-a-2+then-a-gt65536 w ↦ finish_long c.requires c.args.out.now e (not-false c.args.a.fits w.if-not-a-2.false) w.if-a-gt65536.true
+    ]
 
-pub returns-then-plan-le64 : goal.returns-then-plan-le64
-returns-then-plan-le64 c = search (rules, finish_exits)
-
-pub slice_bounds-write_image-end-then-a-le65536 : goal.slice_bounds-write_image-end-then-a-le65536
-slice_bounds-write_image-end-then-a-le65536 c = search (rules, finish_exits)
-
-pub write_image-requires-then-a-le65536 : goal.write_image-requires-then-a-le65536
-write_image-requires-then-a-le65536 c = search (rules, finish_exits)
-
-pub shape_of-out-then-a-le65536 : goal.shape_of-out-then-a-le65536
-shape_of-out-then-a-le65536 c = search (rules, finish_exits)
-
-pub returns-then-a-le65536 : goal.returns-then-a-le65536
-returns-then-a-le65536 c = search (rules, finish_exits)
-
-pub returns-else-a-le65536 : goal.returns-else-a-le65536
-returns-else-a-le65536 c = search (rules, finish_exits)
-
-pub returns-else-a : goal.returns-else-a
-returns-else-a c = search (rules, finish_exits)
-
-pub returns : goal.returns
-returns c = search (rules, finish_exits)
+pub returns-then-not-a-2-clause-out_after : goal.returns-then-not-a-2-clause-out_after
+returns-then-not-a-2-clause-out_after c =
+    let e = not-false c.args.a.plan.enough c.if-not-a.false in
+    elim c.then-not-a-2.branch [
+      | then-not-a-2-via-then-not-a-2 w ↦ finish_many_kept c.requires c.args.out.now e (not-true c.args.a.fits w.if-not-a-2.true)
+      | then-not-a-2-via-else-not-a-2+then-a-gt65536 w ↦ finish_long_kept c.requires c.args.out.now e (not-false c.args.a.fits w.if-not-a-2.false) w.if-a-gt65536.true
+    ]

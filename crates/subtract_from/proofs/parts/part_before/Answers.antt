@@ -4,14 +4,8 @@ use Rattle.subtract_from.proofs.PartExits.{part_exits}
 use borrow.Author.Rules.{rules}
 use Rattle.subtract_from.proofs.parts.part_before.Goals as goal
 
-pub keyed-requires : goal.keyed-requires
-keyed-requires c = search (rules, part_exits)
-
-pub cut-requires : goal.cut-requires
-cut-requires c = search (rules, part_exits)
-
-pub returns-then-keyed : goal.returns-then-keyed
-returns-then-keyed c = search (rules, part_exits)
+pub returns-then-not-keyed : goal.returns-then-not-keyed
+returns-then-not-keyed c = search (rules, part_exits)
 
 pub returns : goal.returns
 returns c = search (rules, part_exits)
