@@ -1,6 +1,6 @@
 -- What the walks over the views of a run and over the runs of an image keep: the views seen were sampled.
 -- Assumes nothing.
-use Prim.Native.Nat.{ℕ, ◌+◌, ◌^◌, ◌<◌, ◌≤◌, min}
+use Prim.Native.Nat.{ℕ, ◌+◌, ◌<◌, ◌≤◌, min}
 use native.Mathlib.Omega.{arith}
 use native.Mathlib.Nat.{min-eq_left}
 use mathlib.Core.Path.{◌≡◌, refl, sym, ap, subst, ◌∙◌}
@@ -92,9 +92,6 @@ module _ {s : List ℕ} {r : RunSpan} {m keys₀ bytes₀ : List ℕ} {w₀ : So
     pub view_here : T (is_got (view.read (drop at s)))
     view_here = walk_here p.walk h
 
-    pub seen_fits : seen + 1 < 2 ^ 64
-    seen_fits = omega (arith, p.run.most)
-
     module _ {v : ViewSpan} (f : ViewThere s (view.read (drop at s)) v) where
       pub view_inside : ViewInside s v
       view_inside = f.inside
@@ -142,7 +139,7 @@ stop_past s r = record { is = tt }
 pub index_next : {m : List ℕ} {at next fault : ℕ} {j : Judged} → JudgedFound m (faults index_checks (index.read (drop at m))) j → j ≡ JudgedAt next fault → IndexNext m at next fault
 index_next x q = record { found = record { meaning = rw q at x.meaning; inside = rw q at x.inside } }
 
-pub ruleset views_exits = (views_begin, keys_kept, bytes_kept, sampled_now, index_place, views_ended, views_past, view_here, seen_fits, view_inside, views_stop, views_onward, stop_past, index_next)
+pub ruleset views_exits = (views_begin, keys_kept, bytes_kept, sampled_now, index_place, views_ended, views_past, view_here, view_inside, views_stop, views_onward, stop_past, index_next)
 
 -- ---- runs_sampled
 views_of_more : (rs : List Run) (r : Run) (qs : List Run) → views (rs ++ (r ∷ qs)) ≡ (views rs ++ r.views) ++ views qs
@@ -217,9 +214,6 @@ module _ {s : List ℕ} {n : ℕ} {m keys₀ bytes₀ keys bytes : List ℕ} {se
     pub run_here : T (is_got (run_head.read (drop at s)))
     run_here = head_got s at (walk_here p.walk h)
 
-    pub runs_fit : seen + 1 < 2 ^ 64
-    runs_fit = omega (arith, p.runs.most)
-
     module _ {r : RunSpan} (f : RunThere s (run_head.read (drop at s)) r) where
       pub run_views_lem : RunViews s r
       run_views_lem = record { first = f.inside; there = there_views s at f (walk_here p.walk h); most = there_most s at f }
@@ -257,4 +251,4 @@ module _ {s : List ℕ} {n : ℕ} {m keys₀ bytes₀ keys bytes : List ℕ} {se
               bytes_long = b ∙ p.bytes_long;
             }
 
-pub ruleset runs_exits = (runs_begin, run_keys_kept, run_bytes_kept, runs_now, runs_ended, run_here, runs_fit, run_views_lem, runs_stop, runs_onward)
+pub ruleset runs_exits = (runs_begin, run_keys_kept, run_bytes_kept, runs_now, runs_ended, run_here, run_views_lem, runs_stop, runs_onward)

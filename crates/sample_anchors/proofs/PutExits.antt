@@ -65,9 +65,6 @@ module _ {s keys : List ℕ} {n len row : ℕ} (p : Measured s keys n len row) w
     pub measured_key : T (is_got (read_key (drop (get_or keys row 0) s)))
     measured_key = (p.rows.row row h).there
 
-    pub row_fits : Fits w64 (row + 1)
-    row_fits = omega (arith, p.most)
-
     module _ {key : List ℕ} (e : key ≡ key_there s (get_or keys row 0)) where
       short : length key ≤ 1024
       short = rw e (key_short s (get_or keys row 0) measured_key)
@@ -88,7 +85,7 @@ module _ {s keys : List ℕ} {n len row : ℕ} (p : Measured s keys n len row) w
             bound = omega (arith, p.bound, short);
           }
 
-pub ruleset len_exits = (measured_begin, measured_all, measured_row, measured_key, row_fits, field_fits, length_fits, measured_onward)
+pub ruleset len_exits = (measured_begin, measured_all, measured_row, measured_key, field_fits, length_fits, measured_onward)
 
 -- ---- put_anchor
 abbrev anchor_of : List ℕ → ℕ → ℕ → Anchor
