@@ -1,9 +1,9 @@
 -- The exits of the functions that put one run.
 -- Assumes nothing.
-use Prim.Native.Nat.{ℕ, ◌+◌, ◌-◌, ◌*◌, ◌≤◌, ◌<◌}
+use Prim.Native.Nat.{ℕ, zero, suc, ◌+◌, ◌-◌, ◌*◌, ◌≤◌, ◌<◌}
 use native.Mathlib.Omega.{arith}
-use mathlib.Core.Path.{◌≡◌, sym, ap, ◌∙◌}
-use mathlib.Core.List.{List, ◌++◌}
+use mathlib.Core.Path.{◌≡◌, refl, sym, ap, ◌∙◌}
+use mathlib.Core.List.{List, ◌∷◌, ◌++◌}
 use lib.ListN.{length, take, drop, length-append}
 use mir.Val.{Fits}
 use mir.Syntax.{w64}
@@ -22,7 +22,11 @@ use Rattle.commit_write.specs.BucketLaws.{by_all}
 use Rattle.commit_write.specs.Runs.{head_bytes, source_bytes, destination_bytes, run_bytes, Bucketed, Copied, DestinationFits, RunWritable}
 use Rattle.commit_write.specs.declared.runs.Reached.{Reached}
 use Rattle.range_write.proofs.Pieces.{put_length, put_same, same_room, same_length, first_room, second_room, both_put}
+use Rattle.std.specs.List.{range_with_len}
+use Rattle.std.proofs.iter.Yields.{nat_range_steps}
+use Rattle.std.proofs.lemmas.Iterator.{YieldsList, YieldsList-from_range}
 use Rattle.commit_write.proofs.Counting.{rows_length}
+use Rattle.commit_write.proofs.Writing.{rows_bytes}
 use Rattle.commit_write.proofs.Placing.{order_long, chosen_bytes, chosen_front}
 
 -- ---- put_head
@@ -123,31 +127,28 @@ module _ {image job ids t order d : List ℕ} {r : RunRow} {at : Reached} (w : R
     front : take (at.outputs + r.rows) o ≡ numbers
     front = chosen_front t at.outputs at.row r.rows order destination_buckets s
 
-    ordered_bytes : numbered_bytes image job ids t (take (at.outputs + r.rows) o) ≡ all
-    ordered_bytes = rw front (chosen_bytes image job ids t at.outputs at.row r.rows)
-
     pub ordered_same : length o ≡ length order
     ordered_same = order_long t at.outputs at.row r.rows order destination_buckets destination_places s
 
     pub ordered_long : at.outputs + r.rows ≤ length o
     ordered_long = rw ordered_same destination_places
 
-    pub ordered_there : All (RowThere image job ids t) (take (at.outputs + r.rows) o)
-    ordered_there =
-        rw front
-        (by_all (bucket_at t) (RowThere image job ids t) 0 131 (placed_rows at.outputs at.row r.rows)
-        (All-append (RowThere image job ids t) (count_from 0 at.outputs) (count_from at.row r.rows) w.outputs w.there))
+    module _ {ks : List ℕ} (y : ks ≡ take (at.outputs + r.rows) o) where
+      ordered_bytes : numbered_bytes image job ids t ks ≡ all
+      ordered_bytes = rw (y, front) (chosen_bytes image job ids t at.outputs at.row r.rows)
 
-    module _ {e : List ℕ} {a : ℕ} (p : Put d at.to (head_bytes r.id (at.outputs + r.rows)) e a) where
-      pub ordered_room : a + length (numbered_bytes image job ids t (take (at.outputs + r.rows) o)) ≤ length e
-      ordered_room = rw ordered_bytes (views_room d at.to r.id (at.outputs + r.rows) all destination_is w.room p)
+      pub ordered_there : All (RowThere image job ids t) ks
+      ordered_there =
+          rw (y, front)
+          (by_all (bucket_at t) (RowThere image job ids t) 0 131 (placed_rows at.outputs at.row r.rows)
+          (All-append (RowThere image job ids t) (count_from 0 at.outputs) (count_from at.row r.rows) w.outputs w.there))
 
-      module _ {f : List ℕ} {b : ℕ} (q : Put e a (numbered_bytes image job ids t (take (at.outputs + r.rows) o)) f b) where
-        pub destination_put : Put d at.to (run_bytes image job ids (view_rows 0 at.outputs t) r (view_rows at.row r.rows t)) f b
-        destination_put = views_put d at.to r.id (at.outputs + r.rows) all destination_is w.room p (put_same q ordered_bytes)
+      module _ {e : List ℕ} {a : ℕ} (p : Put d at.to (head_bytes r.id (at.outputs + r.rows)) e a) where
+        pub ordered_room : a + length (numbered_bytes image job ids t ks) ≤ length e
+        ordered_room = rw ordered_bytes (views_room d at.to r.id (at.outputs + r.rows) all destination_is w.room p)
 
-        pub destination_same : length f ≡ length d
-        destination_same = put_length destination_put w.room
+        pub destination_put : {f : List ℕ} {b : ℕ} → Put e a (numbered_bytes image job ids t ks) f b → Put d at.to (run_bytes image job ids (view_rows 0 at.outputs t) r (view_rows at.row r.rows t)) f b
+        destination_put q = views_put d at.to r.id (at.outputs + r.rows) all destination_is w.room p (put_same q ordered_bytes)
 
 -- ---- put_run: any other run
 module _ {image job ids t order d : List ℕ} {r : RunRow} {at : Reached} (w : RunWritable image job ids t order r at d) where
@@ -174,8 +175,14 @@ module _ {image job ids t order d : List ℕ} {r : RunRow} {at : Reached} (w : R
     pub source_few : r.rows ≤ 1024
     source_few = w.fits.source k
 
-    pub source_there : RowsThere image job ids t at.row r.rows
-    source_there = w.there
+    own_count : at.row + r.rows - at.row ≡ r.rows
+    own_count = omega arith
+
+    pub source_there : All (RowThere image job ids t) (count_from at.row (at.row + r.rows - at.row))
+    source_there = rw own_count w.there
+
+    source_numbers : numbered_bytes image job ids t (count_from at.row (at.row + r.rows - at.row)) ≡ view_bytes image job ids (view_rows at.row r.rows t)
+    source_numbers = rw own_count (sym (rows_bytes image job ids t at.row r.rows))
 
     abbrev views : List ℕ
     views = view_bytes image job ids (view_rows at.row r.rows t)
@@ -184,14 +191,19 @@ module _ {image job ids t order d : List ℕ} {r : RunRow} {at : Reached} (w : R
     source_head_room = head_room d at.to r.id r.rows views (source_bytes_lem image job ids outs r own k) w.room
 
     module _ {e : List ℕ} {a : ℕ} (p : Put d at.to (head_bytes r.id r.rows) e a) where
-      pub source_views_room : a + length (view_bytes image job ids (view_rows at.row r.rows t)) ≤ length e
-      source_views_room = views_room d at.to r.id r.rows views (source_bytes_lem image job ids outs r own k) w.room p
+      pub source_room : a + length (numbered_bytes image job ids t (count_from at.row (at.row + r.rows - at.row))) ≤ length e
+      source_room = rw source_numbers (views_room d at.to r.id r.rows views (source_bytes_lem image job ids outs r own k) w.room p)
 
-      module _ {f : List ℕ} {b : ℕ} (q : Put e a (view_bytes image job ids (view_rows at.row r.rows t)) f b) where
-        pub source_put : Put d at.to (run_bytes image job ids (view_rows 0 at.outputs t) r (view_rows at.row r.rows t)) f b
-        source_put = views_put d at.to r.id r.rows views (source_bytes_lem image job ids outs r own k) w.room p q
+      pub source_put : {f : List ℕ} {b : ℕ} → Put e a (numbered_bytes image job ids t (count_from at.row (at.row + r.rows - at.row))) f b → Put d at.to (run_bytes image job ids (view_rows 0 at.outputs t) r (view_rows at.row r.rows t)) f b
+      source_put q = views_put d at.to r.id r.rows views (source_bytes_lem image job ids outs r own k) w.room p (put_same q source_numbers)
 
-        pub source_same : length f ≡ length d
-        source_same = put_length source_put w.room
+-- ---- put_run: what the iterators give
+range_is : (a n : ℕ) → range_with_len a n ≡ count_from a n
+unfolding count_from
+range_is a zero = refl
+range_is a (suc n) = ap (λ l. a ∷ l) (range_is (a + 1) n)
 
-pub ruleset run_exits = (destination_few, destination_fits, destination_head_room, destination_buckets, destination_places, ordered_same, ordered_long, ordered_there, ordered_room, destination_put, destination_same, other_head, other_order, other_past, other_bytes_lem, put_same, same_room, same_length, source_few, source_there, source_head_room, source_views_room, source_put, source_same)
+pub given_range : (a n : ℕ) → YieldsList nat_range_steps (λ k. k) (record { start = a; end = a + n }) (count_from a (a + n - a))
+given_range a n = let z : a + n - a ≡ n = omega arith in rw (z, ← range_is a n) (YieldsList-from_range a (a + n) n refl z)
+
+pub ruleset run_exits = (destination_few, destination_fits, destination_head_room, destination_buckets, destination_places, ordered_same, ordered_long, ordered_there, ordered_room, destination_put, other_head, other_order, other_past, other_bytes_lem, put_same, same_room, same_length, source_few, source_there, source_head_room, source_room, source_put)

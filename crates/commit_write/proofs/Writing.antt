@@ -1,6 +1,6 @@
 -- What the loops keep that put rows by their numbers.
 -- Assumes nothing.
-use Prim.Native.Nat.{ℕ, ◌+◌, ◌*◌, ◌≤◌, ◌<◌, ◌^◌}
+use Prim.Native.Nat.{ℕ, zero, suc, ◌+◌, ◌*◌, ◌≤◌, ◌<◌, ◌^◌}
 use native.Mathlib.Omega.{arith}
 use mathlib.Core.Path.{◌≡◌, sym, ap, ◌∙◌}
 use mathlib.Core.List.{List, [], ◌∷◌, ◌++◌, append-nil, flat_map}
@@ -15,7 +15,7 @@ use Rattle.commit_rows.specs.Bytes.{RowInside, row_bytes}
 use Rattle.commit_rows.specs.declared.rows.Row.{Row}
 use Rattle.range_write.specs.Put.{Put}
 use Rattle.commit_write.specs.Rows.{row_in, count_from, view_rows, view_bytes, numbered_bytes, RowThere, RowsThere}
-use Rattle.range_write.proofs.Pieces.{put_length, put_none, put_same, second_room, both_put}
+use Rattle.range_write.proofs.Pieces.{put_none, put_same, second_room, both_put}
 use Rattle.commit_write.proofs.Counting.{length_count, count_at, all_at, take_more}
 
 -- the first i of the rows with the numbers ks are put at `to` of d
@@ -40,16 +40,6 @@ one_numbered image job ids t k = append-nil (row_bytes image job ids (row_in t k
 module _ {image job ids t ks d : List ℕ} {to : ℕ} {out : List ℕ} {i past : ℕ} (p : Writing image job ids t ks d to out i past) where
   abbrev bytes : List ℕ → List ℕ
   bytes l = numbered_bytes image job ids t l
-
-  front_room : to + length (numbered_bytes image job ids t (take i ks)) ≤ length d
-  front_room =
-      let s : numbered_bytes image job ids t (take i ks ++ drop i ks) ≡ bytes (take i ks) ++ bytes (drop i ks)
-      = flat_map_append (λ k. row_bytes image job ids (row_in t k)) (take i ks) (drop i ks) in
-      let l = length-append (bytes (take i ks)) (bytes (drop i ks)) in
-      omega (arith, p.room, l, ap length s, ap (λ z. length (bytes z)) (take-append-drop i ks))
-
-  pub writing_length : length out ≡ length d
-  writing_length = put_length p.put front_room
 
   pub writing_all : length ks ≤ i → Put d to (numbered_bytes image job ids t ks) out past
   writing_all h = rw (take_all i ks h) at p.put
@@ -90,45 +80,12 @@ module _ {image job ids t ks d : List ℕ} {to : ℕ} {out : List ℕ} {i past :
             put = put_same (both_put d to (numbered_bytes image job ids t (take i ks)) (row_bytes image job ids r) more_room p.put u) (sym more);
           }
 
--- ---- put_rows: the numbers are those from a row on
-module _ (image job ids t : List ℕ) (from n : ℕ) where
-  rows_bytes : view_bytes image job ids (view_rows from n t) ≡ numbered_bytes image job ids t (count_from from n)
-  rows_bytes = flat_map_map (row_bytes image job ids) (row_in t) (count_from from n)
+-- ---- the numbers from a row on
+pub rows_bytes : (image job ids t : List ℕ) (from n : ℕ) → view_bytes image job ids (view_rows from n t) ≡ numbered_bytes image job ids t (count_from from n)
+rows_bytes image job ids t from n = flat_map_map (row_bytes image job ids) (row_in t) (count_from from n)
 
-  pub rows_begin : (d : List ℕ) (to : ℕ) → RowsThere image job ids t from n → to + length (view_bytes image job ids (view_rows from n t)) ≤ length d → Writing image job ids t (count_from from n) d to d 0 to
-  rows_begin d to a h = writing_begin a (rw rows_bytes at h)
-
-module _ {image job ids t : List ℕ} (from n : ℕ) {d : List ℕ} {to : ℕ} {out : List ℕ} {i past : ℕ} (p : Writing image job ids t (count_from from n) d to out i past) where
-  count_long : length (count_from from n) ≡ n
-  count_long = length_count from n
-
-  pub rows_put : n ≤ i → Put d to (view_bytes image job ids (view_rows from n t)) out past
-  rows_put h = put_same (writing_all p (rw count_long h)) (sym (rows_bytes image job ids t from n))
-
-  module _ (h : i < n) where
-    in_count : i < length (count_from from n)
-    in_count = rw count_long h
-
-    number : from + i ≡ get_or (count_from from n) i 0
-    number = sym (count_at from n i h)
-
-    pub rows_row : (from + i) * 11 + 11 ≤ length t
-    rows_row = writing_row p in_count number
-
-    pub rows_fits : length t < 2 ^ 64 → Fits w64 (from + i)
-    rows_fits l = omega (arith, rows_row)
-
-    module _ {r : Row} (q : r ≡ row_of (row_at 11 (from + i) t)) where
-      pub rows_inside : RowInside image job ids r
-      rows_inside = writing_inside p in_count number q
-
-      pub rows_room : past + length (row_bytes image job ids r) ≤ length out
-      rows_room = writing_room p in_count number q
-
-      pub rows_more : {out' : List ℕ} {past' : ℕ} → Put out past (row_bytes image job ids r) out' past' → Writing image job ids t (count_from from n) d to out' (i + 1) past'
-      rows_more u = writing_more p in_count number q u
-
-pub ruleset rows_exits = (rows_begin, writing_length, rows_put, rows_row, rows_fits, rows_inside, rows_room, rows_more)
-
--- ---- put_in_order: the numbers are a list's
-pub ruleset order_exits = (writing_begin, writing_length, writing_all, writing_row, writing_inside, writing_room, writing_more)
+pub rows_fit : (image job ids t : List ℕ) (from n : ℕ) → RowsThere image job ids t from n → from < 2 ^ 64 → length t < 2 ^ 64 → Fits w64 (from + n)
+rows_fit image job ids t from zero a f l = omega arith
+rows_fit image job ids t from (suc n) a f l =
+    let k = all_at (RowThere image job ids t) (count_from from (suc n)) n a (rw length_count (omega arith)) in
+    omega (arith, k.long, count_at from (suc n) n (omega arith))

@@ -1,50 +1,30 @@
 // The bytes of rows, one row after another.
-ghost use Rattle.std.specs.Prelude.{◌≤◌, ◌+◌, length};
+ghost use Rattle.std.specs.Prelude.{◌≤◌, ◌+◌, ℕ, List, length};
+ghost use Rattle.std.specs.Iterator.{IsFinite};
+ghost use Rattle.std.proofs.lemmas.Iterator.{YieldsList};
 ghost use Rattle.base.specs.Lists.{All};
 ghost use Rattle.range_write.specs.Put.{Put};
-ghost use Rattle.commit_write.specs.Rows.{view_rows, view_bytes, numbered_bytes, RowThere, RowsThere};
+ghost use Rattle.commit_write.specs.Rows.{numbered_bytes, RowThere};
 
 use crate::views::put_view;
 
-// The n rows from a row on.
-pub fn put_rows<'a>(
-    image: &'a [u8],
-    job: &'a [u8],
+// The rows whose numbers are given.
+pub fn put_rows<I: Iterator<Item = usize>>(
+    image: &[u8],
+    job: &[u8],
     ids: &[u8],
     rows: &[usize],
-    from: usize,
-    n: usize,
+    numbers: I,
     out: &mut [u8],
     to: usize,
 ) -> usize
-    requires fact_1 { RowsThere image.now job.now ids.now rows.now from n }
-    requires fact_2 { to + length (view_bytes image.now job.now ids.now (view_rows from n rows.now)) ≤ length out.old }
-    ensures { Put out.old to (view_bytes image.now job.now ids.now (view_rows from n rows.now)) out.new result }
+    requires can { I.can_next numbers }
+    requires ends { IsFinite (I.remaining numbers) }
+    requires given { (ks : List ℕ) × YieldsList I.next_gives (λ k. k) numbers ks × All (RowThere image.now job.now ids.now rows.now) ks × (to + length (numbered_bytes image.now job.now ids.now rows.now ks) ≤ length out.old) }
+    ensures { (ks : List ℕ) → YieldsList I.next_gives (λ k. k) numbers ks → Put out.old to (numbered_bytes image.now job.now ids.now rows.now ks) out.new result }
 {
     let mut past = to;
-    for i in 0..n {
-        let row = commit_rows::row_at(rows, from + i);
-        past = put_view(image, job, ids, row, out, past);
-    }
-    past
-}
-
-// The rows whose numbers a list has.
-pub fn put_in_order<'a>(
-    image: &'a [u8],
-    job: &'a [u8],
-    ids: &[u8],
-    rows: &[usize],
-    order: &[usize],
-    out: &mut [u8],
-    to: usize,
-) -> usize
-    requires fact_1 { All (RowThere image.now job.now ids.now rows.now) order.now }
-    requires fact_2 { to + length (numbered_bytes image.now job.now ids.now rows.now order.now) ≤ length out.old }
-    ensures { Put out.old to (numbered_bytes image.now job.now ids.now rows.now order.now) out.new result }
-{
-    let mut past = to;
-    for &k in order {
+    for k in numbers {
         let row = commit_rows::row_at(rows, k);
         past = put_view(image, job, ids, row, out, past);
     }

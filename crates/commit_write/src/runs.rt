@@ -5,7 +5,7 @@ ghost use Rattle.range_write.specs.Put.{Put};
 ghost use Rattle.commit_write.specs.Runs.{head_bytes, run_at, planned_image, Writable, RunWritable};
 
 use crate::destination::place_rows;
-use crate::rows::{put_in_order, put_rows};
+use crate::rows::put_rows;
 use crate::views::put_part;
 use commit_rows::{RunKind, RunRow};
 
@@ -55,13 +55,13 @@ fn put_run<'a>(
         RunKind::Other => put_part(image, r.first - 6, r.past, out, at.to),
         RunKind::Source => {
             let to = put_head(out, at.to, r.id, r.rows);
-            put_rows(image, job, ids, rows, at.row, r.rows, out, to)
+            put_rows(image, job, ids, rows, at.row..at.row + r.rows, out, to)
         }
         RunKind::Destination => {
             let n = at.outputs + r.rows;
             let to = put_head(out, at.to, r.id, n);
             place_rows(rows, at.outputs, at.row, r.rows, order);
-            put_in_order(image, job, ids, rows, &order[..n], out, to)
+            put_rows(image, job, ids, rows, order[..n].iter().copied(), out, to)
         }
     }
 }
