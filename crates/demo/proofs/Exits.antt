@@ -1,14 +1,13 @@
--- The exits of `has`. Assumes nothing.
-use Prim.Native.Nat.{ℕ}
-use mathlib.Core.Path.{◌≡◌, sym}
-use mathlib.Core.Bool.{true, false, true≢false}
-use mathlib.Core.List.{List}
-use lib.ListN.{take, drop}
+-- The exit of `has` where the bytes stand. Assumes nothing.
+use Rattle.std.proofs.Common.{ℕ, ◌≡◌, ◌==◌, ◌-◌, ◌≤◌, ◌∙◌, true, ap, Bool, List, take, drop, length, length-drop, sym, arith}
+use Rattle.std.proofs.Math.Seq.{take_all}
+use Rattle.std.specs.List.{starts_with}
+use Rattle.std.proofs.lemmas.Slice.Eq.{slice_eq-Decides}
+use Rattle.std.proofs.lemmas.Bool.Decides.{Decides-eqb}
 use Rattle.demo.specs.Has.{Has}
 
-module _ (text piece : List ℕ) where
-  pub has_none : false ≡ true → Has text piece
-  has_none e = absurd (true≢false (sym e))
-
-  pub has_one : (at count : ℕ) → take count (drop at text) ≡ piece → true ≡ true → Has text piece
-  has_one at count h e = record { at = at; count = count; stands = h }
+pub has_one : (text piece : List ℕ) (at : ℕ) {r : Bool} → r ≡ starts_with (λ (x : ℕ). λ (y : ℕ). x == y) (take (length text - at) (drop at text)) piece → r ≡ true → true ≡ true → Has text piece
+has_one text piece at e h t =
+    let l : length (drop at text) ≤ length text - at = simp length-drop (omega arith) in
+    let rest = take_all (length text - at) (drop at text) l in
+    record { at = at; count = length piece; stands = ap (take (length piece)) (sym rest) ∙ sym ((slice_eq-Decides Decides-eqb _ _ _ e).0 h) }

@@ -2,14 +2,12 @@
 
 // Bytes at a place of a buffer; answers the place past them. What does not fit is not put.
 fn put(out: &mut [u8], at: usize, bytes: &[u8]) -> usize {
-    if out.len() < at {
+    if out.len() < at || out.len() - at < bytes.len() {
         return at;
     }
-    if out.len() - at < bytes.len() {
-        return at;
-    }
-    format::put(out, at, bytes);
-    at + bytes.len()
+    let end = at + bytes.len();
+    out[at..end].copy_from_slice(bytes);
+    end
 }
 
 // 128 bits that are a small number.

@@ -5,30 +5,11 @@
 
 mod build;
 
-ghost use Rattle.std.specs.Prelude.{◌≡◌, true, take};
+ghost use Rattle.std.specs.Prelude.{◌≡◌, true};
 ghost use Rattle.demo.specs.Has.{Has};
 
 use base::Written;
-
-fn text(t: &[u8]) {
-    io::write_all(1, t);
-}
-
-fn stop(n: u8) {
-    text(b"stop ");
-    io::print_decimal(1, n as u64);
-    text(b"\n");
-}
-
-// The front of a buffer.
-fn front(buffer: &[u8], length: usize) -> &[u8]
-    ensures { result.now ≡ take length buffer.now }
-{
-    if length <= buffer.len() {
-        return &buffer[..length];
-    }
-    buffer
-}
+use image_report::{front, stop, text};
 
 // Writes an image's listing, and leaves it at the front of a buffer. Answers its length.
 fn show(image: &[u8], listing: &mut [u8]) -> usize {
@@ -61,16 +42,10 @@ fn commit<'a>(heading: &[u8], image: &'a [u8], job: &'a [u8], out: &mut [u8]) ->
 fn has(t: &[u8], piece: &[u8]) -> bool
     ensures { result ≡ true → Has t.now piece.now }
 {
-    let mut i = 0;
-    while i < t.len() {
-        if t.len() - i < piece.len() {
-            return false;
-        }
-        let end = i + piece.len();
-        if check::same(&t[i..end], piece) {
+    for i in 0..t.len() {
+        if t[i..].starts_with(piece) {
             return true;
         }
-        i += 1;
     }
     false
 }

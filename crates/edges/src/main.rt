@@ -1,5 +1,6 @@
 // Runs document 01's edges through the public calls and writes what they answer. The starred ones are also proved, as
-// rows of one list, in specs/Edges.antt.
+// rows of one list, in specs/Edges.antt. Lines are written by file number, since a write that fails is to end nothing: `println!`
+// would answer an error, to be let go at each line, and would drop the rest of a line whose start failed.
 #![tactic(auto)]
 
 use base::Written;
@@ -7,7 +8,7 @@ use bilqarush::{Compared, Covered, Estimated, Tested};
 
 fn print_stop(n: u8) {
     io::write_all(1, b": stop ");
-    io::print_decimal(1, n as u64);
+    io::print_decimal(1, u64::from(n));
     io::write_all(1, b"\n");
 }
 
@@ -32,27 +33,19 @@ fn print_order(name: &[u8], c: Compared) {
         Compared::Order(z) => {
             if z < 0 {
                 io::write_all(1, b": -1\n");
+            } else if z == 0 {
+                io::write_all(1, b": 0\n");
             } else {
-                if z == 0 {
-                    io::write_all(1, b": 0\n");
-                } else {
-                    io::write_all(1, b": 1\n");
-                }
+                io::write_all(1, b": 1\n");
             }
         }
     }
 }
 
 fn print_bytes(b: &[u8]) {
-    let mut i = 0;
-    while i < b.len() {
-        io::print_hex(1, wide(b[i]), 2);
-        i += 1;
+    for &x in b {
+        io::print_hex(1, u64::from(x), 2);
     }
-}
-
-fn wide(x: u8) -> u64 {
-    x as u64
 }
 
 // A range image or a plan that was written, in hexadecimal.
@@ -62,8 +55,8 @@ fn print_range(name: &[u8], out: &[u8], w: Written) {
         Written::Stop(n) => print_stop(n),
         Written::Wrote(n) => {
             io::write_all(1, b": ");
-            if n <= out.len() {
-                print_bytes(&out[..n]);
+            if let Some(written) = out.get(..n) {
+                print_bytes(written);
             }
             io::write_all(1, b"\n");
         }

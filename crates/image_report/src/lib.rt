@@ -1,4 +1,5 @@
-// What the calls answer, as text on standard output.
+// What the calls answer, as text on standard output. It is written by file number, since a write that fails is to end nothing:
+// `println!` would answer an error, to be let go at each line, and would drop the rest of a line whose start failed.
 #![tactic(auto)]
 
 ghost use Rattle.std.specs.Prelude.{◌≡◌, take};
@@ -16,9 +17,9 @@ pub fn decimal(n: usize) {
     io::print_decimal(1, n as u64);
 }
 
-fn stop(n: u8) {
+pub fn stop(n: u8) {
     text(b"stop ");
-    decimal(n as usize);
+    decimal(usize::from(n));
     text(b"\n");
 }
 
@@ -26,10 +27,7 @@ fn stop(n: u8) {
 pub fn front(buffer: &[u8], length: usize) -> &[u8]
     ensures { result.now ≡ take length buffer.now }
 {
-    if length <= buffer.len() {
-        return &buffer[..length];
-    }
-    buffer
+    &buffer[..length.min(buffer.len())]
 }
 
 // The number of a refused image's stop, or the one given for an accepted image.
@@ -45,15 +43,14 @@ pub fn stop_or(c: Checked, other: u8) -> u8
 // An accepted image answers 9 here, since none has 65 runs. A refused one answers its own stop: 1 to 7 come before 9.
 fn stop_of_range(image: &[u8]) -> u8 {
     match bilqarush::compacted_effective_range(image, 64, 0) {
-        ViewRange::At { start: _, end: _ } => 0,
+        ViewRange::At { .. } => 0,
         ViewRange::Stop(n) => n,
     }
 }
 
 // An accepted image answers 16 here, since no listing fits into no bytes. A refused one answers its own stop.
 fn stop_of_list(image: &[u8]) -> u8 {
-    let mut none = [0u8; 0];
-    match bilqarush::list(image, &mut none) {
+    match bilqarush::list(image, &mut []) {
         Written::Wrote(_) => 0,
         Written::Stop(n) => n,
     }
@@ -92,8 +89,8 @@ pub fn listing(buffer: &[u8], length: usize, out: &mut [u8]) {
 
 // The key at a place of an image.
 fn key(image: &[u8], at: usize, len: usize) {
-    if at <= image.len() {
-        text(front(&image[at..], len));
+    if let Some(rest) = image.get(at..) {
+        text(front(rest, len));
     }
 }
 
@@ -110,13 +107,11 @@ pub fn range(image: &[u8], run: usize, view: usize) {
     match bilqarush::compacted_effective_range(image, run, view) {
         ViewRange::Stop(n) => stop(n),
         ViewRange::At { start, end } => {
-            let start_kind = start.kind;
-            let end_kind = end.kind;
-            bracket(start_kind, b"[", b"(");
+            bracket(start.kind, b"[", b"(");
             key(image, start.at, start.len);
             text(b" ");
             key(image, end.at, end.len);
-            bracket(end_kind, b"]", b")");
+            bracket(end.kind, b"]", b")");
             text(b"\n");
         }
     }

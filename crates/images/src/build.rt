@@ -2,10 +2,7 @@
 // at a place and answers the place after them; what has no room is left out.
 
 pub fn number(image: &mut [u8], at: usize, n: u64, width: usize) -> usize {
-    if image.len() < at {
-        return at;
-    }
-    if image.len() - at < width {
+    if image.len() < at || image.len() - at < width {
         return at;
     }
     format::put_number(image, at, n, width);
@@ -14,19 +11,17 @@ pub fn number(image: &mut [u8], at: usize, n: u64, width: usize) -> usize {
 
 pub fn key(image: &mut [u8], at: usize, k: &[u8]) -> usize {
     let from = number(image, at, k.len() as u64, 2);
-    if image.len() < from {
+    if image.len() < from || image.len() - from < k.len() {
         return from;
     }
-    if image.len() - from < k.len() {
-        return from;
-    }
-    format::put(image, from, k);
-    from + k.len()
+    let end = from + k.len();
+    image[from..end].copy_from_slice(k);
+    end
 }
 
 pub fn run(image: &mut [u8], at: usize, id: u64, views: u16) -> usize {
     let count = number(image, at, id, 4);
-    number(image, count, views as u64 * 16, 2)
+    number(image, count, u64::from(views) * 16, 2)
 }
 
 // An image of one run, up to its views. The run has the id 7.
@@ -86,10 +81,8 @@ pub fn shown_view(
 // Views that start at one key.
 pub fn open_views(image: &mut [u8], at: usize, count: u64, first: &[u8]) -> usize {
     let mut to = at;
-    let mut id = 0;
-    while id < count {
+    for id in 0..count {
         to = open_view(image, to, id, 0, 0, first);
-        id += 1;
     }
     to
 }
@@ -97,10 +90,8 @@ pub fn open_views(image: &mut [u8], at: usize, count: u64, first: &[u8]) -> usiz
 // An image of runs without views.
 pub fn runs(image: &mut [u8], count: u64) -> usize {
     let mut to = number(image, 0, count, 1);
-    let mut id = 0;
-    while id < count {
+    for id in 0..count {
         to = run(image, to, id, 0);
-        id += 1;
     }
     to
 }

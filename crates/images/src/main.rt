@@ -83,7 +83,12 @@ fn sample(image: &mut [u8]) -> usize {
 
 // Changes a byte of the run that starts at a place of the sample.
 fn change(image: &mut [u8], run: u8, place: u8, byte: u8) {
-    build::number(image, run as usize + place as usize, byte as u64, 1);
+    build::number(
+        image,
+        usize::from(run) + usize::from(place),
+        u64::from(byte),
+        1,
+    );
 }
 
 // Images that are short enough to be written out.
@@ -110,7 +115,7 @@ fn runs(name: &[u8], count: u64) {
 fn views(name: &[u8], count: u16, first: &[u8], more: usize, place: usize, byte: u64) {
     let mut image = [0u8; 65537];
     let start = build::one_run(&mut image, count);
-    let rest = build::open_views(&mut image, start, count as u64, first);
+    let rest = build::open_views(&mut image, start, u64::from(count), first);
     let end = build::number(&mut image, rest, 0, more);
     build::number(&mut image, place, byte, 1);
     case(name, &image, end);
@@ -218,7 +223,7 @@ fn fault(image: &mut [u8], run: u8, stop: u8) {
         6 => change(image, run, START_KEY, b'x'),
         7 => change(image, run, INDEX_OFFSET, 128),
         // For run 8 the id of run 7, which is stop 6 too.
-        0 | 8..=255 => change(image, run, RUN_ID, 7),
+        _ => change(image, run, RUN_ID, 7),
     }
 }
 
@@ -229,34 +234,35 @@ fn pair(first: u8, second: u8) {
     fault(&mut image, 1, first);
     fault(&mut image, 1 + RUN, second);
     image_report::text(b"stop ");
-    image_report::decimal(first as usize);
+    image_report::decimal(usize::from(first));
     if second == 8 {
         case(b" in run 7, run ids 7, 7", &image, SAMPLE);
     } else {
         image_report::text(b" in run 7, stop ");
-        image_report::decimal(second as usize);
+        image_report::decimal(usize::from(second));
         case(b" in run 8", &image, SAMPLE);
     }
 }
 
 fn pairs() {
-    let mut i: u8 = 0;
-    while i < 56 {
+    for i in 0..56 {
         pair(i / 8 + 1, i % 8 + 1);
-        i += 1;
     }
 }
 
 // How many fronts of an image stop with 1, from the shortest on, before one does not.
 fn cut_fronts(image: &[u8]) -> usize {
-    let mut n = 0;
-    while n < image.len() {
-        if image_report::stop_or(bilqarush::check_image(image_report::front(image, n)), 0) != 1 {
-            return n;
-        }
-        n += 1;
-    }
-    n
+    (0..image.len())
+        .take_while(|&n| front_stop(image, n) == 1)
+        .count()
+}
+
+// The stop of a front, 0 if none.
+fn front_stop(image: &[u8], length: usize) -> u8 {
+    image_report::stop_or(
+        bilqarush::check_image(image_report::front(image, length)),
+        0,
+    )
 }
 
 // The sample has each kind of field, and each front but the whole ends inside a field or before one.

@@ -3,7 +3,7 @@
 use Prim.Native.Nat.{ℕ, ◌+◌, ◌≤◌, ◌<◌}
 use native.Mathlib.Omega.{arith}
 use native.Mathlib.Nat.{zero-add}
-use mathlib.Core.Path.{◌≡◌, refl, sym, ap, ◌∙◌}
+use mathlib.Core.Path.{◌≡◌, refl, subst, sym, ap, ◌∙◌}
 use mathlib.Core.List.{List, [], ◌∷◌, ◌++◌}
 use lib.ListN.{length, drop, length-append}
 use lib.Seq.{take_at}
@@ -39,18 +39,24 @@ module _ (d : List ℕ) (n : ℕ) (h : n < 256) (room : 9 ≤ length d) {e : Lis
   pub digits_room : 5 + length (decimal n) ≤ length e
   digits_room = omega (arith, digits_few, word_length)
 
-  module _ {f : List ℕ} {to : ℕ} (q : f ≡ splice e 5 (decimal n)) (t : to ≡ 5 + length (decimal n)) where
+  module _ {m : ℕ} (k : m ≡ n) {f : List ℕ} {to : ℕ} (put : f ≡ splice e 5 (decimal m)) (ends : to ≡ 5 + length (decimal m)) where
+    q : f ≡ splice e 5 (decimal n)
+    q = subst (λ x. f ≡ splice e 5 (decimal x)) k put
+
+    t : to ≡ 5 + length (decimal n)
+    t = subst (λ x. to ≡ 5 + length (decimal x)) k ends
+
     pub newline_room : to < length f
-    newline_room = omega (arith, digits_few, word_length, spliced_length e 5 (decimal n) q digits_room)
+    newline_room = omega (arith, t, digits_few, word_length, spliced_length e 5 (decimal n) q digits_room)
 
     pub past_fits : Fits w64 (to + 1)
-    past_fits = omega (arith, digits_few)
+    past_fits = omega (arith, t, digits_few)
 
     size : length (stop_text n) ≡ 6 + length (decimal n)
     size = rw (length-append, length-append) (omega arith)
 
     pub stop_past : to + 1 ≡ length (stop_text n)
-    stop_past = omega (arith, size)
+    stop_past = omega (arith, t, size)
 
     pub stop_put : {g : List ℕ} → g ≡ splice f to (10 ∷ []) → g ≡ over (stop_text n) d
     stop_put r =

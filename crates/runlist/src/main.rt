@@ -15,9 +15,8 @@ fn put_stop(out: &mut [u8], n: u8) -> usize
     ensures value { result ≡ length (stop_text «n») }
     ensures out_after { out.new ≡ over (stop_text «n») out.old }
 {
-    let text = [b's', b't', b'o', b'p', b' '];
-    format::put(out, 0, &text);
-    let end = text::put_decimal(out, 5, n as u64);
+    format::put(out, 0, b"stop ");
+    let end = text::put_decimal(out, 5, u64::from(n));
     format::put_byte(out, end, b'\n');
     end + 1
 }
