@@ -4,7 +4,7 @@ use Rattle.commit_entries.proofs.RowExits.{ten_exits}
 use borrow.Author.Rules.{rules}
 use Rattle.commit_entries.proofs.next_ten.Goals as goal
 
-pub returns-in-Some : goal.returns-in-At
+pub returns-in-Some : goal.returns-in-Some
 returns-in-Some c = search (rules, ten_exits)
 
 pub returns-in_default : goal.returns-in_default
