@@ -76,7 +76,7 @@ module _ (a b : List ℕ) (r : RangeSpan) (x : BoundSpan) {t : Bool} (e : t ≡ 
   unfolding part_before
   before_found w p = rw (is_some w) p
 
-  pub none_before : not t ≡ true → PartFound a b (part_before (key_of (bound_in b x)) (range_in a r.start r.end)) Nothing
+  pub none_before : not t ≡ true → PartFound a b (part_before (key_of (bound_in b x)) (range_in a r.start r.end)) None
   unfolding part_before
   none_before w = rw (is_none w) (record { meaning = refl; inside = tt })
 
@@ -84,7 +84,7 @@ module _ (a b : List ℕ) (r : RangeSpan) (x : BoundSpan) {t : Bool} (e : t ≡ 
   unfolding part_from
   from_found w p = rw (is_some w) p
 
-  pub none_from : not t ≡ true → PartFound a b (part_from (key_of (bound_in b x)) (range_in a r.start r.end)) Nothing
+  pub none_from : not t ≡ true → PartFound a b (part_from (key_of (bound_in b x)) (range_in a r.start r.end)) None
   unfolding part_from
   none_from w = rw (is_none w) (record { meaning = refl; inside = tt })
 
