@@ -23,7 +23,7 @@ pub fn stop(n: u8) {
     text(b"\n");
 }
 
-// The front of a buffer.
+// The front of a buffer. replay::buffer has it too: neither crate stands on the other.
 pub fn front(buffer: &[u8], length: usize) -> &[u8]
     ensures { result.now ≡ take length buffer.now }
 {

@@ -9,7 +9,8 @@ ghost use Rattle.subtract_from.specs.Found.{part_in, part_bytes, part_count, par
 use base::Written;
 use format::span::{JointSpan, supplied_key};
 
-// How many bytes a part takes, if there is one.
+// How many bytes a part takes, if there is one. Its bounds stand in two slices: a job's part, as from_compaction measures it,
+// stands in one and is always there, so that the two have no contract in common.
 fn part_size<'a>(a: &'a [u8], b: &'a [u8], m: Option<JointSpan>) -> usize
     requires fact_1 { MetInside a.now b.now m }
     requires fact_2 { length a.now ≤ 65536 }
