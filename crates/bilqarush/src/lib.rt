@@ -182,6 +182,7 @@ fn ranges_given(a: &[u8], b: &[u8]) -> Both
 }
 
 // The range whose bounds the sides supply.
+#[tactic(auto, using(crate::proofs::Pairs::joined_exits))]
 fn from_sides(sides: Option<(Side, Side)>, r: RangeSpan, q: RangeSpan) -> Joined
     ensures { result ≡ joined_by sides r q }
 {
