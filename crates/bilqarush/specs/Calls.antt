@@ -1,7 +1,7 @@
 -- The outcome of each public call: the checks in their order, then the answer. Document 01, "Ranges" and "Stops".
 use Rattle.std.specs.Prelude.{ℕ, Bool, ◌&&◌, List, ℤ}
 use Rattle.std.proofs.Math.Option.{Option, none, some}
-use Rattle.base.specs.Outcome.{Outcome, stop, answer, and_then, check, written_to}
+use Rattle.base.specs.Outcome.{Outcome, answer, and_then, check, written_to}
 use Rattle.key.specs.Order.{Key, cmp_key, sign}
 use Rattle.comparable_range.specs.Range.{Range, cmp_bound, non_empty, holds, of, intersect_sides, union_sides}
 use Rattle.comparable_range.specs.Range.{Sides}

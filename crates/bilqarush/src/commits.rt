@@ -9,6 +9,7 @@ use commit_index::Indexed;
 // Reads an image and a job, the record of a compaction, finished or not, and writes to the front of out the image in which
 // what is durable of it shows, through its output tables in the destination and no longer through the sources. New view ids
 // are drawn from ids. Stops 1 to 12 and 14 to 16.
+#[tactic(auto, using(crate::proofs::CommitExits::commit_exits))]
 pub fn commit<'a>(image: &'a [u8], job: &'a [u8], ids: &[u8], out: &mut [u8]) -> Written
     ensures value { result ≡ reported (commit_outcome image.now job.now ids.now (length out.old)) }
     ensures out_after { out.new ≡ lent out.old (commit_outcome image.now job.now ids.now (length out.old)) }

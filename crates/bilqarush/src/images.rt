@@ -15,6 +15,7 @@ pub enum Checked {
 }
 
 // Whether bytes are an image.
+#[tactic(auto, using(crate::proofs::ImageExits::check_exits))]
 pub fn check_image(image: &[u8]) -> Checked
     ensures { checked_answer result ≡ check_image_outcome image.now }
 {
@@ -37,6 +38,7 @@ pub enum ViewRange {
 }
 
 // The effective range of a view, which is called by its place in the run that is called by its place; both count from 0.
+#[tactic(auto, using(crate::proofs::ImageExits::effective_exits))]
 pub fn compacted_effective_range(image: &[u8], run: usize, view: usize) -> ViewRange
     ensures { ViewRangeFound image.now (compacted_effective_range_outcome image.now run view) result }
 {
@@ -52,6 +54,7 @@ pub fn compacted_effective_range(image: &[u8], run: usize, view: usize) -> ViewR
 }
 
 // The listing of an image. It is measured before the first byte is written.
+#[tactic(auto, using(crate::proofs::ImageExits::list_exits))]
 pub fn list(image: &[u8], out: &mut [u8]) -> Written
     ensures value { result ≡ reported (list_outcome image.now (length out.old)) }
     ensures out_after { out.new ≡ lent out.old (list_outcome image.now (length out.old)) }

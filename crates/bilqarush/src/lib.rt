@@ -55,6 +55,7 @@ pub enum Point {
 }
 
 // The order of two keys.
+#[tactic(auto, using(crate::proofs::Checks::compare_exits))]
 pub fn compare(a: &[u8], b: &[u8]) -> Compared
     ensures { order_of result ≡ compare_outcome a.now b.now }
 {
@@ -68,6 +69,7 @@ pub fn compare(a: &[u8], b: &[u8]) -> Compared
 }
 
 // The order of two bounds, both starts or both ends.
+#[tactic(auto, using(crate::proofs::Checks::bound_exits))]
 pub fn cmp_bound(a_kind: u8, a: &[u8], b_kind: u8, b: &[u8], start: bool) -> Compared
     ensures { order_of result ≡ cmp_bound_outcome a_kind a.now b_kind b.now start }
 {
@@ -83,6 +85,7 @@ pub fn cmp_bound(a_kind: u8, a: &[u8], b_kind: u8, b: &[u8], start: bool) -> Com
 }
 
 // Whether a range passes the Rust's test.
+#[tactic(auto, using(crate::proofs::Checks::range_exits))]
 pub fn non_empty(range: &[u8]) -> Tested
     ensures { test_of result ≡ non_empty_outcome range.now }
 {
@@ -97,6 +100,7 @@ pub fn non_empty(range: &[u8]) -> Tested
 }
 
 // Whether a range holds a key.
+#[tactic(auto, using(crate::proofs::Checks::range_exits))]
 pub fn contains(range: &[u8], key: &[u8]) -> Tested
     ensures { test_of result ≡ contains_outcome range.now key.now }
 {
@@ -122,6 +126,7 @@ pub fn contains(range: &[u8], key: &[u8]) -> Tested
 const START_KEY: usize = 3;
 
 // The key of a range that is one point.
+#[tactic(auto, using(crate::proofs::Checks::range_exits))]
 pub fn as_point(range: &[u8]) -> Point
     ensures { result ≡ point_at (as_point_outcome range.now) }
 {
@@ -150,6 +155,7 @@ pub enum Both {
     Stop(u8),
 }
 
+#[tactic(auto, using(crate::proofs::Pairs::pair_exits))]
 fn ranges_given(a: &[u8], b: &[u8]) -> Both
     ensures { BothFound a.now b.now result }
 {
@@ -202,6 +208,7 @@ fn from_sides(sides: Option<(Side, Side)>, r: RangeSpan, q: RangeSpan) -> Joined
 }
 
 // The intersection of two ranges. Of equal bounds, the second range's start and the first's end are answered.
+#[tactic(auto, using(crate::proofs::Pairs::join_exits))]
 pub fn intersect<'a>(a: &'a [u8], b: &'a [u8]) -> Joined
     ensures { JointFound a.now b.now (intersect_outcome a.now b.now) result }
 {
@@ -251,6 +258,7 @@ pub fn intersect_end_key<'a>(a: &'a [u8], b: &'a [u8]) -> KeyPart<'a>
 }
 
 // The union of two ranges, where the Rust has one.
+#[tactic(auto, using(crate::proofs::Pairs::join_exits))]
 pub fn union<'a>(a: &'a [u8], b: &'a [u8]) -> Joined
     ensures { JointFound a.now b.now (union_outcome a.now b.now) result }
 {

@@ -4,29 +4,5 @@ use Rattle.bilqarush.proofs.Checks.{range_exits}
 use borrow.Author.Rules.{rules}
 use Rattle.bilqarush.proofs.contains.Goals as goal
 
-pub range_whole-requires : goal.range_whole-requires
-range_whole-requires c = search (rules, range_exits)
-
-pub enum_known-n : goal.enum_known-n
-enum_known-n c = search (rules, range_exits)
-
-pub enum_known-start : goal.enum_known-start
-enum_known-start c = search (rules, range_exits)
-
-pub returns-then-key-gt1024 : goal.returns-then-key-gt1024
-returns-then-key-gt1024 c = search (rules, range_exits)
-
-pub passes-requires : goal.passes-requires
-passes-requires c = search (rules, range_exits)
-
-pub holds-requires : goal.holds-requires
-holds-requires c = search (rules, range_exits)
-
 pub returns-then-passes : goal.returns-then-passes
 returns-then-passes c = search (rules, range_exits)
-
-pub returns-in-Stop : goal.returns-in-Stop
-returns-in-Stop c = search (rules, range_exits)
-
-pub returns-else-passes : goal.returns-else-passes
-returns-else-passes c = search (rules, range_exits)
