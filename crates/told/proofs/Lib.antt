@@ -1,4 +1,3 @@
-pub mod OrderExits
 pub mod Laws
 pub mod LookupExample
 pub mod SizeExample

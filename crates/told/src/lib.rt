@@ -59,9 +59,10 @@ pub fn test_given(at_or_below: bool) -> Test
     ensures { result ≡ test_given at_or_below }
 {
     if at_or_below {
-        return Test::AtOrBelow;
+        Test::AtOrBelow
+    } else {
+        Test::Below
     }
-    Test::Below
 }
 
 pub fn tell_count(c: Counted, count: &mut usize) -> u8

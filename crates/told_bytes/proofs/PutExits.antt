@@ -5,8 +5,7 @@ use native.Mathlib.Omega.{arith}
 use mathlib.Core.Path.{◌≡◌, refl, sym, ap, ◌∙◌}
 use mathlib.Core.List.{List, [], ◌∷◌, ◌++◌, append_assoc}
 use lib.ListN.{length, length-append}
-use borrow.Author.Tests.{le-leb}
-use Rattle.base.specs.Outcome.{Outcome, answer, lent, reported, written_to}
+use Rattle.base.specs.Outcome.{Outcome, lent, reported, written_to}
 use Rattle.base.proofs.Outcome.{stops_16, keeps, wrote, stands}
 use Rattle.base.specs.Splice.{splice, splice_splice}
 use Rattle.base.specs.declared.Written.{Written}
@@ -15,17 +14,15 @@ use Rattle.format.specs.Number.{write_number}
 use Rattle.format.specs.Range.{kind_number}
 use Rattle.format.specs.declared.range.BoundSpan.{BoundSpan}
 use Rattle.format.proofs.Layouts.{number_length}
-use Rattle.format.specs.Span.{SuppliedInside, supplied_bound, bound_key}
 use Rattle.format.specs.declared.span.Supplied.{Supplied}
 use Rattle.bytes_range.proofs.RangePut.{at_front}
-use Rattle.format.specs.Span.{joint_of, JoinedInside, start_key_of, end_key_of}
 use Rattle.bilqarush.specs.declared.Point.{Point}
 use Rattle.bilqarush.specs.declared.Point.TheVariants.{At, Nothing as NoPoint, Stop as PointStop}
 use Rattle.format.specs.declared.span.Joined.{Joined}
 use Rattle.format.specs.declared.span.Joined.TheVariants.{Range as Bounds, Nothing, Stop as JoinedStop}
 use Rattle.bilqarush.specs.declared.images.ViewRange.{ViewRange}
 use Rattle.bilqarush.specs.declared.images.ViewRange.TheVariants.{At as RangeAt, Stop as RangeStop}
-use Rattle.told_bytes.specs.Layouts.{side_number, place, bound, supplied, nothing, point_to, joined_to, view_range_to, key_to}
+use Rattle.told_bytes.specs.Layouts.{side_number, place, bound, supplied, nothing, point_to, joined_to, view_range_to}
 
 -- ---- lengths
 place_length : (at len : ℕ) → length (place at len) ≡ 16
@@ -76,22 +73,6 @@ module _ (d : List ℕ) (to : ℕ) where
       next (k ∷ s ∷ []) l 2 refl (omega arith) both q
       ∙ ap (λ n. splice d to ((n ∷ s ∷ []) ++ l)) t
       ∙ ap (λ n. splice d to ((kind_number x.bound.kind ∷ n ∷ []) ++ l)) u
-
--- ---- nothing
-module _ (d : List ℕ) where
-  pub nothing_short : length d < 1 → Stop 16 ≡ reported (written_to (length d) nothing)
-  nothing_short = stops_16 d nothing refl
-
-  pub nothing_kept : length d < 1 → d ≡ lent d (written_to (length d) nothing)
-  nothing_kept = keeps d nothing refl
-
-  pub nothing_wrote : 1 ≤ length d → Wrote 1 ≡ reported (written_to (length d) nothing)
-  nothing_wrote = wrote d nothing refl
-
-  pub nothing_there : {f : List ℕ} → 1 ≤ length d → f ≡ splice d 0 (0 ∷ []) → f ≡ lent d (written_to (length d) nothing)
-  nothing_there h q = stands d nothing refl h (at_front d nothing q)
-
-pub ruleset nothing_exits = (nothing_short, nothing_kept, nothing_wrote, nothing_there)
 
 -- ---- an outcome that is bytes, if they fit: n of them
 module _ (d b : List ℕ) {o : Outcome (List ℕ)} {n : ℕ} (is : o ≡ written_to (length d) b) (l : n ≡ length b) where
@@ -241,74 +222,3 @@ module _ (d : List ℕ) {v : ViewRange} where
     view_there h x y = there d (view_bytes_lem s e) is_v size_v h (next d 0 (bound s) (bound e) 17 (bound_length_lem s) (omega arith) x y)
 
 pub ruleset view_exits = (view_refused, view_refused_kept, view_short, view_short_kept, view_wrote, view_there)
-
--- ---- the bytes of a key
-module _ (d k : List ℕ) where
-  pub key_short : length d < length k → Stop 16 ≡ reported (written_to (length d) k)
-  key_short = stops_16 d k refl
-
-  pub key_kept : length d < length k → d ≡ lent d (written_to (length d) k)
-  key_kept = keeps d k refl
-
-  pub key_wrote : length k ≤ length d → Wrote (length k) ≡ reported (written_to (length d) k)
-  key_wrote = wrote d k refl
-
-  pub key_there_lem : {f : List ℕ} → length k ≤ length d → f ≡ splice d 0 k → f ≡ lent d (written_to (length d) k)
-  key_there_lem h q = stands d k refl h (at_front d k q)
-
-pub ruleset key_exits = (key_short, key_kept, key_wrote, key_there_lem)
-
--- ---- the key of a bound of an intersection
-no_bytes : (d : List ℕ) → written_to (length d) [] ≡ answer []
-no_bytes d = rw (le-leb 0 (length d) (omega arith))
-
-module _ (a b d : List ℕ) {j : Joined} where
-  module _ {n : ℕ} (q : j ≡ JoinedStop n) where
-    pub start_refused : Stop n ≡ reported (key_to (length d) (start_key_of (joint_of a b j)))
-    start_refused = rw q
-
-    pub start_refused_kept : d ≡ lent d (key_to (length d) (start_key_of (joint_of a b j)))
-    start_refused_kept = rw q
-
-    pub end_refused : Stop n ≡ reported (key_to (length d) (end_key_of (joint_of a b j)))
-    end_refused = rw q
-
-    pub end_refused_kept : d ≡ lent d (key_to (length d) (end_key_of (joint_of a b j)))
-    end_refused_kept = rw q
-
-  module _ (q : j ≡ Nothing) where
-    pub no_start : Wrote 0 ≡ reported (key_to (length d) (start_key_of (joint_of a b j)))
-    no_start = rw (q, no_bytes d)
-
-    pub no_start_kept : d ≡ lent d (key_to (length d) (start_key_of (joint_of a b j)))
-    no_start_kept = rw (q, no_bytes d)
-
-    pub no_end : Wrote 0 ≡ reported (key_to (length d) (end_key_of (joint_of a b j)))
-    no_end = rw (q, no_bytes d)
-
-    pub no_end_kept : d ≡ lent d (key_to (length d) (end_key_of (joint_of a b j)))
-    no_end_kept = rw (q, no_bytes d)
-
-  module _ {s e : Supplied} (q : j ≡ Bounds s e) where
-    pub start_place_lem : JoinedInside a b j → SuppliedInside a b s
-    start_place_lem w = (rw q at w).0
-
-    pub end_place_lem : JoinedInside a b j → SuppliedInside a b e
-    end_place_lem w = (rw q at w).1
-
-    module _ {k : List ℕ} where
-      pub start_wrote : k ≡ bound_key (supplied_bound a b s) → {w : Written} → w ≡ reported (written_to (length d) k) → w ≡ reported (key_to (length d) (start_key_of (joint_of a b j)))
-      start_wrote h x = x ∙ rw (q, h)
-
-      pub start_there : k ≡ bound_key (supplied_bound a b s) → {f : List ℕ} → f ≡ lent d (written_to (length d) k) → f ≡ lent d (key_to (length d) (start_key_of (joint_of a b j)))
-      start_there h x = x ∙ rw (q, h)
-
-      pub end_wrote : k ≡ bound_key (supplied_bound a b e) → {w : Written} → w ≡ reported (written_to (length d) k) → w ≡ reported (key_to (length d) (end_key_of (joint_of a b j)))
-      end_wrote h x = x ∙ rw (q, h)
-
-      pub end_there : k ≡ bound_key (supplied_bound a b e) → {f : List ℕ} → f ≡ lent d (written_to (length d) k) → f ≡ lent d (key_to (length d) (end_key_of (joint_of a b j)))
-      end_there h x = x ∙ rw (q, h)
-
-pub ruleset start_exits = (start_refused, start_refused_kept, no_start, no_start_kept, start_place_lem, start_wrote, start_there)
-
-pub ruleset end_exits = (end_refused, end_refused_kept, no_end, no_end_kept, end_place_lem, end_wrote, end_there)

@@ -34,6 +34,7 @@ fn side_number(s: Side) -> u8
     }
 }
 
+#[tactic(auto, using(crate::proofs::PutExits::place_put))]
 fn put_place(out: &mut [u8], to: usize, at: usize, len: usize)
     requires { to + 16 ≤ length out.old }
     ensures { out.new ≡ splice out.old to (place at len) }
@@ -42,29 +43,24 @@ fn put_place(out: &mut [u8], to: usize, at: usize, len: usize)
     format::put_number(out, to + 8, len as u64, 8);
 }
 
+#[tactic(auto, using(crate::proofs::PutExits::bound_put))]
 fn put_bound(out: &mut [u8], to: usize, b: BoundSpan)
     requires { to + 17 ≤ length out.old }
     ensures { out.new ≡ splice out.old to (bound b) }
 {
-    let kind = b.kind;
-    let at = b.at;
-    let len = b.len;
-    format::put_byte(out, to, kind_number(kind));
-    put_place(out, to + 1, at, len);
+    format::put_byte(out, to, kind_number(b.kind));
+    put_place(out, to + 1, b.at, b.len);
 }
 
+#[tactic(auto, using(crate::proofs::PutExits::supplied_put))]
 fn put_supplied(out: &mut [u8], to: usize, x: Supplied)
     requires { to + 18 ≤ length out.old }
     ensures { out.new ≡ splice out.old to (supplied x) }
 {
     let b = x.bound;
-    let side = x.side;
-    let kind = b.kind;
-    let at = b.at;
-    let len = b.len;
-    format::put_byte(out, to, kind_number(kind));
-    format::put_byte(out, to + 1, side_number(side));
-    put_place(out, to + 2, at, len);
+    format::put_byte(out, to, kind_number(b.kind));
+    format::put_byte(out, to + 1, side_number(x.side));
+    put_place(out, to + 2, b.at, b.len);
 }
 
 // No point, no range.
@@ -72,13 +68,14 @@ fn put_nothing(out: &mut [u8]) -> Written
     ensures value { result ≡ reported (written_to (length out.old) nothing) }
     ensures out_after { out.new ≡ lent out.old (written_to (length out.old) nothing) }
 {
-    if out.len() < 1 {
+    if out.is_empty() {
         return Written::Stop(16);
     }
     format::put_byte(out, 0, 0);
     Written::Wrote(1)
 }
 
+#[tactic(auto, using(crate::proofs::PutExits::point_exits))]
 pub fn put_point(point: Point, out: &mut [u8]) -> Written
     ensures value { result ≡ reported (point_to (length out.old) point) }
     ensures out_after { out.new ≡ lent out.old (point_to (length out.old) point) }
@@ -97,6 +94,7 @@ pub fn put_point(point: Point, out: &mut [u8]) -> Written
     }
 }
 
+#[tactic(auto, using(crate::proofs::PutExits::joined_exits))]
 pub fn put_joined(joined: Joined, out: &mut [u8]) -> Written
     ensures value { result ≡ reported (joined_to (length out.old) joined) }
     ensures out_after { out.new ≡ lent out.old (joined_to (length out.old) joined) }
@@ -116,6 +114,7 @@ pub fn put_joined(joined: Joined, out: &mut [u8]) -> Written
     }
 }
 
+#[tactic(auto, using(crate::proofs::PutExits::view_exits))]
 pub fn put_view_range(range: ViewRange, out: &mut [u8]) -> Written
     ensures value { result ≡ reported (view_range_to (length out.old) range) }
     ensures out_after { out.new ≡ lent out.old (view_range_to (length out.old) range) }
