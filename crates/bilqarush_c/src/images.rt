@@ -9,6 +9,7 @@ ghost use Rattle.told_bytes.specs.Layouts.{ViewRangeTold};
 use bilqarush::Checked;
 
 #[unsafe(no_mangle)]
+#[tactic(auto, using(crate::proofs::TellExits::image_exits))]
 pub extern "C" fn bilqarush_check_image(image: &[u8]) -> u8
     ensures { result ≡ stop_of (check_image_outcome image.now) }
 {
@@ -19,6 +20,7 @@ pub extern "C" fn bilqarush_check_image(image: &[u8]) -> u8
 }
 
 #[unsafe(no_mangle)]
+#[tactic(auto, using(crate::proofs::TellExits::view_range_told))]
 pub extern "C" fn bilqarush_compacted_effective_range(
     image: &[u8],
     run: usize,
@@ -33,6 +35,7 @@ pub extern "C" fn bilqarush_compacted_effective_range(
 }
 
 #[unsafe(no_mangle)]
+#[tactic(auto, using(crate::proofs::TellExits::told))]
 pub extern "C" fn bilqarush_list(image: &[u8], out: &mut [u8], written: &mut usize) -> u8
     ensures { Told (list_outcome image.now (length out.old)) (held out) (held written) result }
 {
@@ -40,6 +43,7 @@ pub extern "C" fn bilqarush_list(image: &[u8], out: &mut [u8], written: &mut usi
 }
 
 #[unsafe(no_mangle)]
+#[tactic(auto, using(crate::proofs::TellExits::told))]
 pub extern "C" fn bilqarush_commit<'a>(
     image: &'a [u8],
     job: &'a [u8],

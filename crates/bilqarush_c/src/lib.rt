@@ -18,6 +18,7 @@ ghost use Rattle.told.specs.Told.{held, SlotTold, Told};
 ghost use Rattle.told_bytes.specs.Layouts.{point_to, key_to, JointTold};
 
 #[unsafe(no_mangle)]
+#[tactic(auto, using(crate::proofs::TellExits::slot_told))]
 pub extern "C" fn bilqarush_compare(a: &[u8], b: &[u8], order: &mut i8) -> u8
     ensures { SlotTold (compare_outcome a.now b.now) (held order) result }
 {
@@ -25,6 +26,7 @@ pub extern "C" fn bilqarush_compare(a: &[u8], b: &[u8], order: &mut i8) -> u8
 }
 
 #[unsafe(no_mangle)]
+#[tactic(auto, using(crate::proofs::TellExits::slot_told))]
 pub extern "C" fn bilqarush_cmp_bound(
     a_kind: u8,
     a: &[u8],
@@ -39,6 +41,7 @@ pub extern "C" fn bilqarush_cmp_bound(
 }
 
 #[unsafe(no_mangle)]
+#[tactic(auto, using(crate::proofs::TellExits::slot_told))]
 pub extern "C" fn bilqarush_non_empty(range: &[u8], is: &mut bool) -> u8
     ensures { SlotTold (non_empty_outcome range.now) (held is) result }
 {
@@ -46,6 +49,7 @@ pub extern "C" fn bilqarush_non_empty(range: &[u8], is: &mut bool) -> u8
 }
 
 #[unsafe(no_mangle)]
+#[tactic(auto, using(crate::proofs::TellExits::slot_told))]
 pub extern "C" fn bilqarush_contains(range: &[u8], key: &[u8], is: &mut bool) -> u8
     ensures { SlotTold (contains_outcome range.now key.now) (held is) result }
 {
@@ -53,6 +57,7 @@ pub extern "C" fn bilqarush_contains(range: &[u8], key: &[u8], is: &mut bool) ->
 }
 
 #[unsafe(no_mangle)]
+#[tactic(auto, using(crate::proofs::TellExits::point_told))]
 pub extern "C" fn bilqarush_as_point(range: &[u8], out: &mut [u8], written: &mut usize) -> u8
     ensures { Told (point_to (length out.old) (point_at (as_point_outcome range.now))) (held out) (held written) result }
 {
@@ -63,6 +68,7 @@ pub extern "C" fn bilqarush_as_point(range: &[u8], out: &mut [u8], written: &mut
 }
 
 #[unsafe(no_mangle)]
+#[tactic(auto, using(crate::proofs::TellExits::joint_told))]
 pub extern "C" fn bilqarush_intersect<'a>(
     a: &'a [u8],
     b: &'a [u8],
@@ -78,6 +84,7 @@ pub extern "C" fn bilqarush_intersect<'a>(
 }
 
 #[unsafe(no_mangle)]
+#[tactic(auto, using(crate::proofs::TellExits::start_told, crate::proofs::TellExits::joint_places))]
 pub extern "C" fn bilqarush_intersect_start_key<'a>(
     a: &'a [u8],
     b: &'a [u8],
@@ -93,6 +100,7 @@ pub extern "C" fn bilqarush_intersect_start_key<'a>(
 }
 
 #[unsafe(no_mangle)]
+#[tactic(auto, using(crate::proofs::TellExits::end_told, crate::proofs::TellExits::joint_places))]
 pub extern "C" fn bilqarush_intersect_end_key<'a>(
     a: &'a [u8],
     b: &'a [u8],
@@ -108,6 +116,7 @@ pub extern "C" fn bilqarush_intersect_end_key<'a>(
 }
 
 #[unsafe(no_mangle)]
+#[tactic(auto, using(crate::proofs::TellExits::joint_told))]
 pub extern "C" fn bilqarush_union<'a>(
     a: &'a [u8],
     b: &'a [u8],
@@ -120,6 +129,7 @@ pub extern "C" fn bilqarush_union<'a>(
 }
 
 #[unsafe(no_mangle)]
+#[tactic(auto, using(crate::proofs::TellExits::told))]
 pub extern "C" fn bilqarush_from_prefix(prefix: &[u8], out: &mut [u8], written: &mut usize) -> u8
     ensures { Told (from_prefix_outcome prefix.now (length out.old)) (held out) (held written) result }
 {
@@ -127,6 +137,7 @@ pub extern "C" fn bilqarush_from_prefix(prefix: &[u8], out: &mut [u8], written: 
 }
 
 #[unsafe(no_mangle)]
+#[tactic(auto, using(crate::proofs::TellExits::told))]
 pub extern "C" fn bilqarush_from_prefix_and_subrange(
     prefix: &[u8],
     subrange: &[u8],

@@ -6,6 +6,7 @@ ghost use Rattle.told.specs.Lookups.{CoveredTold};
 ghost use Rattle.told_bytes.specs.Layouts.{JointTold};
 
 #[unsafe(no_mangle)]
+#[tactic(auto, using(crate::proofs::LookupExits::lookup_exits))]
 pub extern "C" fn bilqarush_table_idx_covering_range<'a>(
     image: &'a [u8],
     run: usize,
@@ -23,6 +24,7 @@ pub extern "C" fn bilqarush_table_idx_covering_range<'a>(
 }
 
 #[unsafe(no_mangle)]
+#[tactic(auto, using(crate::proofs::TellExits::slot_told))]
 pub extern "C" fn bilqarush_overlaps_range<'a>(
     image: &'a [u8],
     run: usize,
@@ -35,6 +37,7 @@ pub extern "C" fn bilqarush_overlaps_range<'a>(
 }
 
 #[unsafe(no_mangle)]
+#[tactic(auto, using(crate::proofs::TellExits::joint_told))]
 pub extern "C" fn bilqarush_compacted_intersection<'a>(
     image: &'a [u8],
     run: usize,
@@ -50,6 +53,7 @@ pub extern "C" fn bilqarush_compacted_intersection<'a>(
 }
 
 #[unsafe(no_mangle)]
+#[tactic(auto, using(crate::proofs::TellExits::joint_told))]
 pub extern "C" fn bilqarush_calculate_view_range<'a>(
     image: &'a [u8],
     run: usize,
@@ -65,6 +69,7 @@ pub extern "C" fn bilqarush_calculate_view_range<'a>(
 }
 
 #[unsafe(no_mangle)]
+#[tactic(auto, using(crate::proofs::TellExits::slot_told))]
 pub extern "C" fn bilqarush_intersects_range<'a>(
     image: &'a [u8],
     run: usize,

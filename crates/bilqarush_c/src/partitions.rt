@@ -7,6 +7,7 @@ ghost use Rattle.told.specs.Told.{held, SlotTold, OptionTold};
 ghost use Rattle.told.specs.Lookups.{test_given, CoveredTold};
 
 #[unsafe(no_mangle)]
+#[tactic(auto, using(crate::proofs::LookupExits::count_told))]
 pub extern "C" fn bilqarush_partition_point<'a>(
     index: &'a [u8],
     at_or_below: bool,
@@ -20,6 +21,7 @@ pub extern "C" fn bilqarush_partition_point<'a>(
 }
 
 #[unsafe(no_mangle)]
+#[tactic(auto, using(crate::proofs::LookupExits::lookup_exits))]
 pub extern "C" fn bilqarush_first_partition_including_key<'a>(
     index: &'a [u8],
     key: &'a [u8],
@@ -36,6 +38,7 @@ pub extern "C" fn bilqarush_first_partition_including_key<'a>(
 }
 
 #[unsafe(no_mangle)]
+#[tactic(auto, using(crate::proofs::TellExits::slot_told))]
 pub extern "C" fn bilqarush_first_partition_including_or_after_key<'a>(
     index: &'a [u8],
     key: &'a [u8],
@@ -50,6 +53,7 @@ pub extern "C" fn bilqarush_first_partition_including_or_after_key<'a>(
 }
 
 #[unsafe(no_mangle)]
+#[tactic(auto, using(crate::proofs::LookupExits::lookup_exits))]
 pub extern "C" fn bilqarush_last_partition_including_key<'a>(
     index: &'a [u8],
     key: &'a [u8],
@@ -66,6 +70,7 @@ pub extern "C" fn bilqarush_last_partition_including_key<'a>(
 }
 
 #[unsafe(no_mangle)]
+#[tactic(auto, using(crate::proofs::LookupExits::lookup_exits))]
 pub extern "C" fn bilqarush_partitions_covering_range<'a>(
     index: &'a [u8],
     range: &'a [u8],

@@ -4,6 +4,7 @@ ghost use Rattle.subcompaction.specs.PlanCalls.{sample_anchors_outcome, select_b
 ghost use Rattle.told.specs.Told.{held, Told};
 
 #[unsafe(no_mangle)]
+#[tactic(auto, using(crate::proofs::TellExits::told))]
 pub extern "C" fn bilqarush_sample_anchors(
     most: usize,
     data_end: u64,
@@ -21,6 +22,7 @@ pub extern "C" fn bilqarush_sample_anchors(
 }
 
 #[unsafe(no_mangle)]
+#[tactic(auto, using(crate::proofs::TellExits::told))]
 pub extern "C" fn bilqarush_select_boundaries(
     parts: usize,
     least: u64,
@@ -37,6 +39,7 @@ pub extern "C" fn bilqarush_select_boundaries(
 }
 
 #[unsafe(no_mangle)]
+#[tactic(auto, using(crate::proofs::TellExits::told))]
 pub extern "C" fn bilqarush_plan_subcompaction_ranges(
     parts: usize,
     image: &[u8],

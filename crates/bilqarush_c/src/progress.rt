@@ -5,6 +5,7 @@ ghost use Rattle.subtract_from.specs.SubtractCalls.{subtract_from_outcome};
 ghost use Rattle.told.specs.Told.{held, Told};
 
 #[unsafe(no_mangle)]
+#[tactic(auto, using(crate::proofs::TellExits::told))]
 pub extern "C" fn bilqarush_from_compaction(job: &[u8], out: &mut [u8], written: &mut usize) -> u8
     ensures { Told (from_compaction_outcome job.now (length out.old)) (held out) (held written) result }
 {
@@ -12,6 +13,7 @@ pub extern "C" fn bilqarush_from_compaction(job: &[u8], out: &mut [u8], written:
 }
 
 #[unsafe(no_mangle)]
+#[tactic(auto, using(crate::proofs::TellExits::told))]
 pub extern "C" fn bilqarush_subtract_from<'a>(
     interval: &'a [u8],
     range: &'a [u8],

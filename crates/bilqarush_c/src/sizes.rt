@@ -5,6 +5,7 @@ ghost use Rattle.told.specs.Told.{held, SlotTold, OptionTold};
 ghost use Rattle.told.specs.Sizes.{part_of};
 
 #[unsafe(no_mangle)]
+#[tactic(auto, using(crate::proofs::SizeExits::fraction_told))]
 pub extern "C" fn bilqarush_visible_fraction(
     image: &[u8],
     run: usize,
@@ -22,6 +23,7 @@ pub extern "C" fn bilqarush_visible_fraction(
 }
 
 #[unsafe(no_mangle)]
+#[tactic(auto, using(crate::proofs::TellExits::slot_told))]
 pub extern "C" fn bilqarush_estimate_visible_size(
     image: &[u8],
     run: usize,
@@ -34,6 +36,7 @@ pub extern "C" fn bilqarush_estimate_visible_size(
 }
 
 #[unsafe(no_mangle)]
+#[tactic(auto, using(crate::proofs::TellExits::slot_told))]
 pub extern "C" fn bilqarush_estimate_run_visible_size(
     image: &[u8],
     run: usize,
