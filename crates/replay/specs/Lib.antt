@@ -1,2 +1,3 @@
 pub mod Unwritten
 pub mod Recorded
+pub mod Counted

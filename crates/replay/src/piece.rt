@@ -1,4 +1,6 @@
 // Records with a head of 20 bytes, and the buffers that they make piece by piece.
+ghost use Rattle.std.specs.Prelude.{◌≡◌, ◌+◌, take, OnOk, OnErr};
+
 use crate::{buffer, input};
 
 // A record's head: a call, two numbers, and how many bytes follow.
@@ -31,19 +33,26 @@ pub struct Held<const N: usize> {
 }
 
 impl<const N: usize> Held<N> {
-    pub fn new() -> Held<N> {
+    pub fn new() -> Held<N>
+        ensures { result.length ≡ 0 }
+    {
         Held {
             bytes: [0; N],
             length: 0,
         }
     }
 
-    pub fn front(&self) -> &[u8] {
+    pub fn front(&self) -> &[u8]
+        ensures { result.now ≡ take self.now.length self.now.bytes }
+    {
         buffer::front(&self.bytes, self.length)
     }
 
     // Keeps the first bytes of those held and reads others after them.
-    pub fn read(&mut self, kept: usize, length: usize) -> Result<(), usize> {
+    pub fn read(&mut self, kept: usize, length: usize) -> Result<(), usize>
+        ensures lengthened { OnOk result (self.new.length ≡ kept + length) }
+        ensures kept_length { OnErr result (self.new.length ≡ self.old.length) }
+    {
         if self.length < kept {
             return Err(HEAD);
         }
@@ -62,7 +71,10 @@ impl<const N: usize> Held<N> {
     }
 
     // Extends those held by bytes that repeat the ones so far before them.
-    pub fn repeat(&mut self, length: usize, before: usize) -> Result<(), usize> {
+    pub fn repeat(&mut self, length: usize, before: usize) -> Result<(), usize>
+        ensures lengthened { OnOk result (self.new.length ≡ length) }
+        ensures kept { OnErr result (self.new ≡ self.old) }
+    {
         if self.length < before || N < length {
             return Err(HEAD);
         }

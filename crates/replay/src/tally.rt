@@ -1,6 +1,9 @@
 // Counts of records, and of those whose answers agree. They are printed by file number, and no write's failure ends a program:
 // `println!` would retry a write that a signal interrupts, and stop at a line's first that fails.
 
+ghost use Rattle.std.specs.Prelude.{◌≡◌};
+ghost use Rattle.replay.specs.Counted.{counted, counted_at, call_place, stop_place, no_records};
+
 // How many records there were, and how many of their answers agree.
 #[derive(Clone, Copy)]
 pub struct Tally {
@@ -9,14 +12,18 @@ pub struct Tally {
 }
 
 impl Tally {
-    pub fn new() -> Tally {
+    pub fn new() -> Tally
+        ensures { result ≡ no_records }
+    {
         Tally {
             records: 0,
             agreed: 0,
         }
     }
 
-    pub fn count(&mut self, agreed: bool) {
+    pub fn count(&mut self, agreed: bool)
+        ensures { self.new ≡ counted self.old agreed }
+    {
         self.records = self.records.saturating_add(1);
         self.agreed = self.agreed.saturating_add(u64::from(agreed));
     }
@@ -52,11 +59,14 @@ impl<const CALLS: usize> Counts<CALLS> {
     }
 
     // Calls that have no tally of their own are counted as 0, and stops from 17 on as one.
-    pub fn count(&mut self, call: u8, stop: u8, agreed: bool) {
+    pub fn count(&mut self, call: u8, stop: u8, agreed: bool)
+        ensures calls { self.new.calls ≡ counted_at self.old.calls (call_place CALLS call) agreed }
+        ensures stops { self.new.stops ≡ counted_at self.old.stops (stop_place stop) agreed }
+    {
         let call = usize::from(call);
         let call = if call < CALLS { call } else { 0 };
-        if let Some(tally) = self.calls.get_mut(call) {
-            tally.count(agreed);
+        if call < CALLS {
+            self.calls[call].count(agreed);
         }
         self.stops[usize::from(stop.min(17))].count(agreed);
     }
