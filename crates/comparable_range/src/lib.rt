@@ -74,7 +74,7 @@ fn key_order(ka: Kind, a: &[u8], kb: Kind, b: &[u8]) -> Ordering
 pub fn cmp_bound(ka: Kind, a: &[u8], kb: Kind, b: &[u8], start: bool) -> Ordering
     ensures { result ≡ cmp_bound start (bound_of ka a.now) (bound_of kb b.now) }
 {
-    key_order(ka, a, kb, b).then(tied(ka, kb, start))
+    key_order(ka, a, kb, b).then_with(|| tied(ka, kb, start))
 }
 
 // Whether a range passes, at the order of its keys.

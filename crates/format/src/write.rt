@@ -12,11 +12,15 @@ pub fn put_byte(out: &mut [u8], at: usize, b: u8)
     out[at] = b;
 }
 
+// A byte at a time: of `copy_from_slice` the compiler makes a call of memmove, and the archive needs memcpy and memset alone.
+#[tactic(auto, using(crate::proofs::Puts::pastes))]
 pub fn put(out: &mut [u8], at: usize, src: &[u8])
     requires { at + length src.now ≤ length out.old }
     ensures { out.new ≡ splice out.old at src.now }
 {
-    out[at..at + src.len()].copy_from_slice(src);
+    for i in 0..src.len() {
+        out[at + i] = src[i];
+    }
 }
 
 // The number v in n bytes, the last one first.
@@ -26,8 +30,8 @@ pub fn put_number(out: &mut [u8], at: usize, v: u64, n: usize)
     ensures { out.new ≡ splice out.old at (write_number n v) }
 {
     let mut rest = v;
-    for i in (at..at + n).rev() {
-        out[i] = (rest % 256) as u8;
+    for i in (0..n).rev() {
+        out[at + i] = (rest % 256) as u8;
         rest /= 256;
     }
 }

@@ -118,6 +118,10 @@ further p e = p.agree e
 
 pub ruleset block = (byte_same, byte_differs, first_byte)
 
+-- the first eight bytes
+pub first_differ : {a b : List ℕ} {n x y : ℕ} {r : Ordering} → n ≡ min (length a) (length b) → 8 ≤ n → WordAt a 0 x → WordAt b 0 y → x ≢ y → r ≡ cmp_number x y → r ≡ cmp_key a b
+first_differ {a} {b} m k w z d e = differ (none a b) m (omega arith) w z d e
+
 -- a turn of the loop
 module _ {a b : List ℕ} {i n x y : ℕ}
     (p : Agree a b i)
@@ -150,4 +154,4 @@ module _ {a b : List ℕ} {n x y : ℕ} {r : Ordering}
 
 pub ruleset long = (none, further)
 
-pub ruleset kept = (turn_differ, turn_same, last_differ, last_same)
+pub ruleset kept = (first_differ, turn_differ, turn_same, last_differ, last_same)

@@ -101,6 +101,9 @@ pub fn agreed(a: &[u8], b: &[u8], n: usize) -> usize
     requires { n ≡ min (length a.now) (length b.now) }
     ensures { Agree a.now b.now result }
 {
+    if n < 32 {
+        return 0; // a constant: the next loads need not wait for both lengths
+    }
     for k in 0..n / 32 {
         if !same(a, b, k * 32) {
             return k * 32;
@@ -112,6 +115,7 @@ pub fn agreed(a: &[u8], b: &[u8], n: usize) -> usize
 // The order of two keys: the first unequal byte decides, and a proper prefix comes first.
 // Eight bytes at a time, since the order of equally many bytes is that of their numbers. The last eight of the shorter
 // key may overlap the ones before, which are equal, so that no bytes are left over.
+// Most keys differ in their first eight bytes, so these are looked at first.
 #[tactic(auto, using(crate::proofs::Words::kept))]
 pub fn cmp(a: &[u8], b: &[u8]) -> Ordering
     ensures { result ≡ cmp_key a.now b.now }
@@ -119,6 +123,11 @@ pub fn cmp(a: &[u8], b: &[u8]) -> Ordering
     let n = shorter(a, b);
     if n < 8 {
         return cmp_bytes(a, b);
+    }
+    let first_a = word(a, 0);
+    let first_b = word(b, 0);
+    if first_a != first_b {
+        return cmp_number(first_a, first_b);
     }
     for i in (agreed(a, b, n)..n - 8).step_by(8) {
         let x = word(a, i);

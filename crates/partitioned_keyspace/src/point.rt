@@ -27,11 +27,11 @@ pub fn grown(p: KeyPoint, seen: usize, o: Ordering) -> KeyPoint
     ensures { result ≡ grown_by p seen o }
 {
     match o {
-        Ordering::Less if seen <= p.below => KeyPoint {
-            below: seen + 1,
+        Ordering::Less => KeyPoint {
+            below: if p.below < seen { p.below } else { seen + 1 },
             at_most: seen + 1,
         },
-        Ordering::Less | Ordering::Equal => KeyPoint {
+        Ordering::Equal => KeyPoint {
             at_most: seen + 1,
             ..p
         },

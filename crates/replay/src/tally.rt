@@ -1,7 +1,7 @@
 // Counts of records, and of those whose answers agree. They are printed by file number, and no write's failure ends a program:
 // `println!` would retry a write that a signal interrupts, and stop at a line's first that fails.
 
-ghost use Rattle.std.specs.Prelude.{◌≡◌};
+ghost use Rattle.std.specs.Prelude.{◌≡◌, replicate};
 ghost use Rattle.replay.specs.Counted.{counted, counted_at, call_place, stop_place, no_records};
 
 // How many records there were, and how many of their answers agree.
@@ -51,7 +51,10 @@ pub struct Counts<const CALLS: usize> {
 }
 
 impl<const CALLS: usize> Counts<CALLS> {
-    pub fn new() -> Counts<CALLS> {
+    pub fn new() -> Counts<CALLS>
+        ensures calls { result.calls ≡ replicate CALLS no_records }
+        ensures stops { result.stops ≡ replicate 18 no_records }
+    {
         Counts {
             calls: [Tally::new(); CALLS],
             stops: [Tally::new(); 18],
